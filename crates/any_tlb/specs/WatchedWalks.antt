@@ -101,15 +101,16 @@ given_results o past h va kind =
     (filter (matches (address_by (satp o past h) va)) (watched o past h va))
     ++ (mixed_results o past h va kind false ++ mixed_results o past h va kind true)
 
--- If satp translates the address, each of these results is the physical address or the fault of now.
+-- If satp translates the address, each result that a TLB may give (`given_results`) is the physical address or the
+-- fault of now.
 abbrev pub ResultsAgree : Opening → List Event → (h va : ℕ) → Kind → Type 0
 ResultsAgree o past h va kind =
     IsTranslated (satp o past h) va
     → All (λ result. phys_of result va ≡ phys_of (maps (memory o past) (satp o past h) va kind) va)
     (given_results o past h va kind)
 
--- If satp translates the address, each of these results is the physical address or the fault of now, or a page fault
--- while the page tables give a leaf (Privileged 4.2.1).
+-- If satp translates the address, each result that a TLB may give (`given_results`) is the physical address or the
+-- fault of now, or a page fault while the page tables give a leaf (Privileged 4.2.1).
 abbrev pub ResultsAreLenient : Opening → List Event → (h va : ℕ) → Kind → Type 0
 ResultsAreLenient o past h va kind =
     IsTranslated (satp o past h) va

@@ -27,7 +27,7 @@ abbrev pub spared_words : Effect Flush → List ℕ → List ℕ
 spared_words done words = if ends_words done then [] else words
 
 -- The watched words of a physical address in the instruction cache of hart h: those watched before the last event,
--- unless it was a FENCE.I there or a reset, and the memory's present one (Zifencei).
+-- unless it applied a FENCE.I there or was a reset, and the memory's present one (Zifencei).
 abbrev pub watched_words : Opening → List Event → (h pa : ℕ) → List ℕ
 watched_words o [] h pa = lived_words o h pa ++ word_or_none (memory o [] pa)
 watched_words o (event ∷ past) h pa =

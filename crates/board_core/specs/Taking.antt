@@ -14,11 +14,12 @@ use Rattle.board_core.specs.Opening.{Opening}
 use Rattle.board_core.specs.Refusals.{clock_refusals, first_that_holds, refusals}
 use Rattle.board_core.specs.Replies.{answer_when, reply}
 
--- the refusal of a step, if it is refused, and the reply if it isn't
+-- the refusal of a step, if it is refused
 abbrev pub refusal_at : Opening → Actor → Op → Option Refusal
 refusal_at o (Hart h) op = first_that_holds (refusals false o [] h op)
 refusal_at o Clock op = first_that_holds (clock_refusals false o [] op)
 
+-- the reply to a step that isn't refused
 abbrev pub reply_at : Opening → Actor → Op → Reply
 reply_at o (Hart h) op = reply o [] h op
 reply_at o Clock op = Done

@@ -459,7 +459,8 @@ impl Board {
     /// The number of serves by hart `t` after which the fence call of hart `caller` no longer waits for `t` (profile).
     /// It is less than the number of harts. It is 0 if `caller` is in no fence call, the call doesn't wait for `t`, or
     /// one of the harts doesn't exist. While the call is open, without a reset and without a poll by `caller`, each
-    /// serve by `t` lowers it by one. Once each hart has served as often as needed, or has stopped, the call can end.
+    /// serve by `t` lowers it by one, down to 0. Once each hart has served as often as needed, or has stopped, the call
+    /// can end, if the history has room.
     pub fn need(&self, caller: u64, t: u64) -> u64
         ensures need { result ≡ need self.now.opening self.now.past caller t }
         ensures limit { result < self.now.opening.config.harts }
@@ -507,8 +508,7 @@ impl Board {
         self.view().time()
     }
 
-    /// The counts of the board's table (profile). Each hart's accepted starts are its entries followed by its pending
-    /// start.
+    /// The counts of the board's table (profile). Each hart's starts are its entries, and then its pending start.
     pub fn totals(&self) -> Totals
         ensures counts { result ≡ totals self.now.opening self.now.past }
         ensures starts { StartsAreEntered self.now.opening self.now.past }

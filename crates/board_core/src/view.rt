@@ -265,8 +265,7 @@ impl<'a> View<'a> {
         self.machine.interrupts.timers.time()
     }
 
-    /// The counts of the board's table (profile). Each hart's accepted starts are its entries followed by its pending
-    /// start.
+    /// The counts of the board's table (profile). Each hart's starts are its entries, and then its pending start.
     pub fn totals(&self) -> Totals
         ensures counts { result ≡ totals self.now.opening self.now.past }
         ensures starts { StartsAreEntered self.now.opening self.now.past }

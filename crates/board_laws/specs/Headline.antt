@@ -18,7 +18,7 @@ pub record Headline (o : Opening) (past : List Event) : Type 0 where
   -- events before it. (Each look-up of a board is its definition on that history, as the look-up's clause says.)
   pub by_the_rules : IsLegal o past
   -- Since the last reset or, without one, the opening, the starts of a hart, including one pending at the opening, are
-  -- its entries and its pending start. Each start is entered with its own address and opaque value (SBI 9).
+  -- its entries and its pending start. Each has its own address and opaque value (SBI 9).
   pub starts_are_entered : StartsAreEntered o past
   -- Each fence asked of a hart was applied there once or waits there once, and no other fence was or does (SBI 8).
   pub applied_once : (t place : ℕ) (event : Event) → IsAtPlace o past place event → AppliedOnce o past t place event

@@ -1,4 +1,4 @@
--- The limit of a board's history (profile). Definitions depend on it only through whether the history is full.
+-- The limit of a board's history (profile). Answers depend on it only through whether the history is full.
 use Rattle.std.specs.Prelude.{ℕ}
 use Rattle.board_core.specs.Opening.{Opening, on}
 

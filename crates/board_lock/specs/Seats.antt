@@ -23,7 +23,7 @@ sitting actor count ops saw = record { actor = actor; count = count; ops = ops; 
 abbrev pub seeing : Sitting → List Event → Sitting
 seeing s saw = sitting s.actor s.count s.ops saw
 
--- The seats of a new board: the harts' in order, then the clock's. No call was made.
+-- The seats of a board that is put behind a lock: the harts' in order, then the clock's. No call was made.
 abbrev pub new_seats : Config → List Sitting
 new_seats c = map (λ h. sitting (Hart h) 0 [] []) (harts_of c) ++ sitting Clock 0 [] [] ∷ []
 

@@ -20,14 +20,14 @@ use Rattle.board_lock.specs.Seats.{Sitting}
 use Rattle.board_lock.specs.declared.views.HartNow.{HartNow}
 use Rattle.board_lock.specs.declared.views.HartView.{HartView}
 
--- It shows hart h of the board: its state, its fence call, the number of fences that wait there, and its wake.
+-- `now` shows hart h of the board: its state, its fence call, the number of fences that wait there, and its wake.
 pub record Shows (b : Course) (h : ℕ) (now : HartNow) : Type 0 where
   pub state : now.state ≡ state b.opening b.past h
   pub outstanding : now.outstanding ≡ outstanding b.opening b.past h
   pub waiting : now.waiting ≡ length (waiting b.opening b.past h)
   pub wake : now.wake ≡ wake b.opening b.past h
 
--- It shows the actor's hart of the board, and nothing for the clock, which has no state.
+-- What is shown to an actor is its hart of the board, and to the clock nothing.
 abbrev pub ShowsTo : Course → Actor → Option HartNow → Type 0
 ShowsTo b (Hart h) (Some now) = Shows b h now
 ShowsTo b (Hart h) None = ⊥

@@ -62,16 +62,19 @@ pub record InterruptsStand (o : Opening) (past : List Event) (i : Interrupts) : 
   pub ipis : IpisStand o past i.ipis
   pub timers : TimersStand o past i.timers
 
--- satp and the caches of hart h, and the hits in these caches
+-- satp of hart h
 abbrev pub satp_at : Memory → ℕ → ℕ
 satp_at m h = slice_index_or m.satps.items h 0
 
+-- the caches of hart h
 abbrev pub caches_at : Memory → ℕ → Caches
 caches_at m h = slice_index_or m.caches.items h no_caches
 
+-- the entry that an address hits in these caches
 abbrev pub tlb_hit : Caches → Address → Option Entry
 tlb_hit caches at = hit matches at caches.tlb
 
+-- the word that a physical address hits in these caches
 abbrev pub word_hit : Caches → ℕ → Option FetchWord
 word_hit caches pa = hit is_at pa caches.words
 
@@ -121,7 +124,8 @@ situation_in m h = record {
   fences = queue_at m.fences.queues h;
 }
 
--- The machine stands for some opening of a board with these numbers and some past, of fewer than 2^56 events.
+-- The machine stands for some opening of a board with these numbers and some past. Fewer than 2^56 events were
+-- accepted, with those before the opening.
 pub record IsStanding (c : Config) (m : Machine) : Type 0 where
   pub o : Opening
   pub past : List Event

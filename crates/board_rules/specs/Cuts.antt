@@ -59,7 +59,8 @@ OpensAfter (suc cuts) o =
     (before : Opening) × (past : List Event) × OpensAfter cuts before × IsLegal before past
     × (o ≡ opening_of before past)
 
--- An opening that a board can reach: a new board's, with numbers within the limits, or what any number of cuts left.
+-- A reachable opening: a new board's, with numbers within the limits, or what any number of cuts left, also later than
+-- `last_cut`.
 pub record IsOpened (o : Opening) : Type 0 where
   pub cuts : ℕ
   pub opens : OpensAfter cuts o

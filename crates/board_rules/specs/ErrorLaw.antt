@@ -22,7 +22,8 @@ abbrev pub is_error : Reply → Bool
 is_error (Ret answer) = not (is_success answer)
 is_error reply = false
 
--- every look-up of a board gives the same on both pasts, except its history and the number of its events
+-- On both pasts each look-up of a board gives the same, except the history, the number of its events, and refusals of a
+-- full history.
 pub record LooksSame (o : Opening) (past later : List Event) : Type 0 where
   pub state : (h : ℕ) → states.state o later h ≡ states.state o past h
   pub kept : (h : ℕ) → starts.kept o later h ≡ starts.kept o past h

@@ -9,7 +9,7 @@ use Rattle.board_terms.specs.declared.op.Op.{Op}
 use Rattle.board_terms.specs.declared.op.Op.TheVariants.{Load, Store, Fetch}
 use Rattle.board_terms.specs.declared.reply.Reply.{Reply}
 
--- The actor, the operation, the reply and, for a translated access, the TLB entry that it hit or filled.
+-- The actor, the operation, the reply, and the TLB entry that an access hit or filled, if any.
 pub record Event : Type 0 where
   pub actor : Actor
   pub op : Op

@@ -36,7 +36,8 @@ satp_by c (ops.WriteSatp value) reply = option_map Here (satp_of_write (spaces_o
 satp_by c ops.Advance (replies.Entry addr hart opaque) = Some (Here 0)
 satp_by c op reply = at_reset (reset_by op reply) 0
 
--- satp of a hart: the value of its last write, entry or reset, or the opening's if there was none.
+-- satp of a hart, as its last write, entry or reset left it, or the opening's if there was none. A write of a MODE that
+-- the board doesn't implement has no effect.
 abbrev pub satp : Opening → List Event → ℕ → ℕ
 satp o [] h = opened_satp o h
 satp o (event ∷ past) h = latest (satp_by o.config event.op event.reply) (is_hart h event.actor) (satp o past h)
@@ -72,8 +73,8 @@ written_by c None memory = memory
 written_by c (Some (Stored storing)) memory = written memory storing.at storing.value
 written_by c (Some Zeroed) memory = zero_memory c.pages
 
--- The word at a physical address, if the RAM has one: the last stored there, or the opening's if there was none, and 0
--- after a cold reboot.
+-- The word at a physical address, if the RAM has one: the opening's, until a store writes there or a cold reboot makes
+-- it 0 (profile).
 abbrev pub memory : Opening → List Event → ℕ → Option ℕ
 memory o [] = word_in o.ram
 memory o (event ∷ past) = written_by o.config (writing_by event.op event.reply event.translation) (memory o past)

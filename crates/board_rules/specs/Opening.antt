@@ -83,9 +83,10 @@ opening_at c = record {
   last_reset = None;
 }
 
--- An opening that a board can have. Each id has a hart, a deadline, a satp and caches. A pending start has its entry
--- point. The fences are a possible opening with the same place; they wait at harts in an interruptible state, and a
--- hart inside a call is STARTED. Live fills were made before. There are no more fills and entries than events.
+-- A consistent opening. Each id has a hart, a satp and caches, and a deadline or none. A pending start has its entry
+-- point. The fences are consistent, with the same place; they wait at harts in an interruptible state, and a hart
+-- inside a call is STARTED. Live fills were made before. There are no more fills in a cache, and no more entered
+-- starts, than events.
 pub record IsOpening (o : Opening) : Type 0 where
   pub harts : length o.harts ≡ o.config.harts
   pub starts : (h : ℕ) → (hart_at o.harts h).state ≡ StartPending → is_some (hart_at o.harts h).kept ≡ true

@@ -79,8 +79,8 @@ answer_when is_full o past Clock op = refused_or (first_that_holds (clock_refusa
 abbrev pub answer : Opening → List Event → Actor → Op → Result Reply Refusal
 answer o past actor op = answer_when (is_full o past) o past actor op
 
--- A legal history: a board can have the opening, and each event has the reply that the rules give after the events
--- before it, and the entry that it then used.
+-- A legal history: the opening is consistent (`IsOpening`), and each event has the reply that the rules give after the
+-- events before it, and the entry that it then used.
 abbrev pub IsLegal : Opening → List Event → Type 0
 IsLegal o [] = IsOpening o
 IsLegal o (event ∷ past) =

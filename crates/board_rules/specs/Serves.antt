@@ -41,10 +41,11 @@ abbrev pub is_stop : Op → Reply → Bool
 is_stop (ops.Ecall regs) reply = is_stop_call (call_of regs) reply
 is_stop op reply = false
 
--- whether hart t serves by this event, and whether it stops by it
+-- whether hart t serves by this event
 abbrev pub serves : (t : ℕ) → Event → Bool
 serves t event = is_hart t event.actor && is_serve event.op
 
+-- whether hart t stops by this event
 abbrev pub stops : (t : ℕ) → Event → Bool
 stops t event = is_hart t event.actor && is_stop event.op event.reply
 

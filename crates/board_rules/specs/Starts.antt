@@ -70,8 +70,8 @@ start_in h s kept = None
 abbrev pub starts_opened : Opening → List Start
 starts_opened o = filter_map (λ h. start_in h (hart_at o.harts h).state (hart_at o.harts h).kept) (harts_of o.config)
 
--- The accepted starts since the last reset, newest first. Without a reset: those since the opening, and before them the
--- starts pending there.
+-- The starts since the last reset, newest first: those of successful calls, and the firmware's own after a reboot.
+-- Without a reset since the opening: those since then, and before them the starts pending there.
 abbrev pub starts : Opening → List Event → List Start
 starts o [] = starts_opened o
 starts o (event ∷ past) = grown (start_by o.config event.op event.reply) (starts o past)
@@ -102,7 +102,7 @@ entered_before o (event ∷ past) = unless_reset (reset_by event.op event.reply)
 abbrev pub is_of : ℕ → Start → Bool
 is_of h start = h == start.hart
 
--- the last start of a hart, if it has one
+-- the last start of a hart; without one the boot hart's
 abbrev pub last_start : Opening → List Event → ℕ → Start
 last_start o past h = unwrap_or (find (is_of h) (starts o past)) (boot_start o.config)
 
@@ -131,8 +131,8 @@ kept o past h = kept_in (state o past h) (last_start o past h) (resume_point o p
 abbrev pub hart_of : Opening → List Event → ℕ → Hart
 hart_of o past h = record { state = state o past h; kept = kept o past h }
 
--- The starts of a hart, newest first, are its pending start, if any, and then its entries. Each start is entered with
--- its own address and opaque value (SBI 9.1).
+-- The starts of a hart, newest first, are its pending start, if any, and then its entries. So each start is pending, or
+-- was entered with its own address and opaque value (SBI 9.1).
 abbrev pub StartsAreEntered : Opening → List Event → Type 0
 StartsAreEntered o past = (h : ℕ) →
     filter (is_of h) (starts o past) ≡ option_to_list (pending o past h) ++ filter (is_of h) (entries o past)

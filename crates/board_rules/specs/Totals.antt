@@ -8,7 +8,7 @@ use Rattle.board_rules.specs.Course.{harts_of}
 use Rattle.board_rules.specs.Fences.{turns, waiting}
 use Rattle.board_rules.specs.Starts.{all_pending, entered_before, entries, starts}
 
--- The counts (profile). A remote fence counts once for each hart: as asked, as applied, or as waiting.
+-- The counts (profile). A remote fence counts once for each hart that it asks: as asked, and as applied or waiting.
 abbrev pub totals : Opening → List Event → Totals
 totals o past = record {
   starts = length (starts o past) + entered_before o past;

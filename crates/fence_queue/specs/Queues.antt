@@ -5,7 +5,7 @@ use Rattle.std.specs.List.{list_any}
 use Rattle.fence_queue.specs.declared.request.Request.{Request}
 
 module _ {F : Type 0} where
-  -- the requests that wait at hart t, if the hart exists
+  -- the requests that wait at hart t; none if there is no such hart
   abbrev pub queue_at : List (List (Request F)) → ℕ → List (Request F)
   queue_at queues t = slice_index_or queues t []
 

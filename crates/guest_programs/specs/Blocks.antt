@@ -19,7 +19,7 @@ in_blocks blocks = λ entry before. slice_get (block_at blocks entry.addr) (leng
 
 -- ---- the same in terms of whole blocks
 
--- The whole block of an entry's address.
+-- The whole block of an entry's address; empty without an entry or such a block.
 abbrev pub block_of : List Guest → Option Entered → List Op
 block_of blocks None = []
 block_of blocks (Some entry) = block_at blocks entry.addr
@@ -50,7 +50,7 @@ abbrev pub rest_in : List Guest → BlockPlace → Rest
 rest_in blocks Idle = λ more. None
 rest_in blocks (At block op) = λ more. slice_get (ops_at blocks block) (op + length more)
 
--- The words of a place: whether something is left, and the indices of the block and the operation.
+-- The words of a place: 0 if it is in no block, else 1 and the indices of the block and the operation.
 abbrev pub place_words : BlockPlace → List ℕ
 place_words Idle = 0 ∷ []
 place_words (At block op) = 1 ∷ block ∷ op ∷ []

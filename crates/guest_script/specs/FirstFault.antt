@@ -31,7 +31,7 @@ fault_number SecondBlock = 7
 fault_number TooLong = 8
 fault_number NoMemory = 9
 
--- the fault that something wrong is
+-- the kind of fault of each mistake
 abbrev pub fault_of : Wrong → FaultKind
 fault_of wrongs.BadByte = BadByte
 fault_of wrongs.NoBoardLine = NoBoardLine
@@ -45,7 +45,7 @@ fault_of wrongs.SecondBlock = SecondBlock
 fault_of wrongs.TooLong = TooLong
 fault_of wrongs.NoMemory = NoMemory
 
--- a fault with its place in a line, as the line's
+-- the fault of a mistake, with its line and without its column
 abbrev pub script_fault : Misread → ScriptFault
 script_fault misread = record { line = misread.line; fault = fault_of misread.wrong }
 
@@ -196,6 +196,6 @@ script_tests bytes =
 abbrev pub first_fault : List ℕ → Option ScriptFault
 first_fault bytes = first_that_holds (script_tests bytes)
 
--- a failed allocation, which no byte shows
+-- a failed allocation, which is at no line
 abbrev pub no_memory : ScriptFault
 no_memory = record { line = 0; fault = NoMemory }

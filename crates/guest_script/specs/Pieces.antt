@@ -19,8 +19,8 @@ pub data Saying : Type 0 where
   OnBoard : Config → Draft → Saying
   Wrong : ScriptFault → Saying
 
--- The beginning of a script, in whole lines: how many bytes, the number of the line after them, and what they say. Of more bytes than a script
--- may have no more is known.
+-- The beginning of a script, in whole lines: how many bytes, the number of the line after them, and what they say. Once
+-- there are more bytes than a script may have, nothing more is known.
 pub record Part : Type 0 where
   pub size : ℕ
   pub next : ℕ

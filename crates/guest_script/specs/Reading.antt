@@ -28,7 +28,7 @@ abbrev pub told : {A : Type 0} → Result A Unread → Result A FaultKind
 told (Ok value) = Ok value
 told (Err unread) = Err (fault_of unread.wrong)
 
--- what is answered of a script, without the place in the line
+-- the result of reading a script, without columns
 abbrev pub plainly : {A : Type 0} → Result A Misread → Result A ScriptFault
 plainly (Ok value) = Ok value
 plainly (Err misread) = Err (script_fault misread)

@@ -42,7 +42,7 @@ IsAtFirstWrong n (text ∷ texts) e =
     × IsFirstWrong (n + 1) Nothing texts e.line)
     ⊎ ((e.line ≡ n) × IsNoBoard text)
 
--- A fault is that the script is too long, or else is at its first wrong line.
+-- A fault is that the script is too long. Otherwise it is at the first wrong line, or at none if no line has words.
 abbrev pub IsPlaced : List ℕ → ScriptFault → Type 0
 IsPlaced bytes e =
     ((most_bytes < length bytes) × (e ≡ record { line = 0; fault = TooLong }))

@@ -55,7 +55,8 @@ pub record Earlier (a : Actor) (past : List Event) (P : List Event → Type 0) :
 abbrev pub Picks : Opening → Next → ℕ → Op → List Event → Type 0
 Picks o guests h op seen = (is_off o seen ≡ false) × Chooses o guests h seen (Some op)
 
--- An operation is its actor's turn: a hart chose it when it last looked, and the clock's is its next tick.
+-- An operation is its actor's turn: a hart chose it when it looked, at some moment since its last event; the clock's is
+-- its next tick.
 abbrev pub IsTurn : Opening → Next → (ticks : List ℕ) → Actor → Op → List Event → Type 0
 IsTurn o guests ticks (Hart h) op past = Earlier (Hart h) past (Picks o guests h op)
 IsTurn o guests ticks Clock op past = (n : ℕ) × (slice_get ticks (many_of Clock past) ≡ Some n) × (op ≡ Tick n)
@@ -93,7 +94,7 @@ Refuses o guests ticks a op r seen = IsTurn o guests ticks a op seen × (answer 
 abbrev pub ChoosesNone : Opening → Next → ℕ → List Event → Type 0
 ChoosesNone o guests h seen = (is_off o seen ≡ true) ⊎ Chooses o guests h seen None
 
--- The gate answered false to the actor's last question.
+-- The gate answered false when it was asked for the actor's next event.
 abbrev pub IsClosed : (lets : ℕ → ℕ → Bool → Type 0) → Opening → List Event → Actor → Type 0
 IsClosed lets o past a = lets (gate_number o.config a) (many_of a past) false
 
@@ -101,8 +102,8 @@ IsClosed lets o past a = lets (gate_number o.config a) (many_of a past) false
 abbrev pub HasMetFull : Opening → Next → (ticks : List ℕ) → List Event → Actor → Type 0
 HasMetFull o guests ticks past a = (op : Op) × Earlier a past (Refuses o guests ticks a op HistoryFull)
 
--- A hart's thread had nothing to do when it last looked. The clock's thread made all ticks, or its next tick was
--- refused for another reason than a full history.
+-- A hart's thread had nothing to do at some moment since its last event. The clock's thread made all ticks, or its next
+-- tick was refused for another reason than a full history.
 abbrev pub HasNoMore : Opening → Next → (ticks : List ℕ) → List Event → Actor → Type 0
 HasNoMore o guests ticks past (Hart h) = Earlier (Hart h) past (ChoosesNone o guests h)
 HasNoMore o guests ticks past Clock =
@@ -130,9 +131,9 @@ pub record AreThreads (lets : ℕ → ℕ → Bool → Type 0) (heard : Accepted
 abbrev pub IsOverFull : End → Type 0
 IsOverFull end = (end ≢ ends.Quiet) × (end ≢ ends.Stuck)
 
--- The threads of a run with this end. Each event of an actor was due. Each thread stopped because its gate closed, which is
--- then the end; because the history was full; or because it had nothing more to do. If the run ended by a gate or a full
--- history, some thread met it.
+-- The threads of a run with this end. Each event of an actor was due. Each thread stopped because its gate closed, which
+-- is then the end; because the history was full; or because it had nothing more to do (`HasNoMore`). If the run ended by
+-- a gate or a full history, some thread met it.
 pub record IsRun (lets : ℕ → ℕ → Bool → Type 0) (o : Opening) (guests : Next) (ticks : List ℕ)
     (past : List Event) (end : End) : Type 0 where
   pub due : (a : Actor) → IsActor o.config a → EachOf (IsDue lets o guests ticks a) a past

@@ -1,4 +1,4 @@
--- The harts that an interrupt or a remote fence reaches (SBI 7, 8; profile).
+-- The harts that an IPI or a remote fence reaches (SBI 7, 8; profile).
 use Rattle.std.specs.Prelude.{ℕ, List}
 use Rattle.hart_mask.specs.Ids.{ids_where}
 use Rattle.hsm.specs.Harts.{Hart}

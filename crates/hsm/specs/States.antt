@@ -42,7 +42,7 @@ is_start_pending Suspended = false
 is_start_pending SuspendPending = false
 is_start_pending ResumePending = false
 
--- Whether a hart is in a suspend: from the call until it is STARTED again (SBI 9.4).
+-- Whether a hart is in a suspend: SUSPEND_PENDING, SUSPENDED or RESUME_PENDING (SBI 9.4).
 abbrev pub is_in_suspend : HartState → Bool
 is_in_suspend Started = false
 is_in_suspend Stopped = false
@@ -52,7 +52,7 @@ is_in_suspend Suspended = true
 is_in_suspend SuspendPending = true
 is_in_suspend ResumePending = true
 
--- Whether an interrupt or a remote fence reaches a hart: it is STARTED or in a suspend. It skips other harts (profile).
+-- Whether an IPI or a remote fence reaches a hart: it is STARTED or in a suspend. They skip other harts (profile).
 abbrev pub is_interruptible : HartState → Bool
 is_interruptible Started = true
 is_interruptible Stopped = false

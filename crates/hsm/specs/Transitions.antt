@@ -25,7 +25,7 @@ started_from kept ResumePending = None
 abbrev pub started : EntryPoint → Hart → Option Hart
 started kept hart = started_from kept hart.state
 
--- A hart stops itself, from STARTED to STOP_PENDING (SBI 9.2).
+-- A hart whose stop is pending after hart_stop (SBI 9.2).
 abbrev pub stopped : Hart
 stopped = stopping
 
@@ -34,7 +34,7 @@ abbrev pub kept_by : SuspendKind → EntryPoint → Option EntryPoint
 kept_by Retentive kept = None
 kept_by NonRetentive kept = Some kept
 
--- A hart suspends itself, from STARTED to SUSPEND_PENDING (SBI 9.4).
+-- A hart whose suspend is pending after hart_suspend (SBI 9.4).
 abbrev pub suspended : SuspendKind → EntryPoint → Hart
 suspended kind kept = suspending (kept_by kind kept)
 
@@ -70,7 +70,7 @@ advanced_from wake Stopped kept = None
 abbrev pub advanced : Bool → Hart → Option Step
 advanced wake hart = advanced_from wake hart.state hart.kept
 
--- the hart with an id, if it exists
+-- the hart with an id; a STOPPED one if there is none
 abbrev pub hart_at : List Hart → ℕ → Hart
 hart_at harts h = slice_index_or harts h resting
 
@@ -79,11 +79,11 @@ abbrev pub changed : List Hart → ℕ → Option Hart → List Hart
 changed harts h (Some hart) = slice_set harts h hart
 changed harts h None = harts
 
--- a hart at the opening: START_PENDING if it is the boot hart, else STOPPED
+-- a hart of a new board: START_PENDING if it is the boot hart, else STOPPED
 abbrev pub hart_at_opening : ℕ → EntryPoint → ℕ → Hart
 hart_at_opening boot_hart boot h = if h == boot_hart then starting boot else resting
 
--- At the opening the boot hart's start is pending, and the other harts are STOPPED (profile).
+-- On a new board the boot hart's start is pending, and the other harts are STOPPED (profile).
 abbrev pub opening : ℕ → ℕ → EntryPoint → List Hart
 opening harts boot_hart boot = map (hart_at_opening boot_hart boot) (range_with_len 0 harts)
 

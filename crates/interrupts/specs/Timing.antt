@@ -10,7 +10,7 @@ pub record Timing : Type 0 where
 abbrev pub no_deadlines : ℕ → List (Option ℕ)
 no_deadlines harts = replicate harts None
 
--- At the opening the time is 0, and no hart has a deadline (profile).
+-- On a new board the time is 0, and no hart has a deadline (profile).
 abbrev pub opening_timing : ℕ → Timing
 opening_timing harts = record { time = 0; deadlines = no_deadlines harts }
 

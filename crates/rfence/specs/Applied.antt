@@ -14,6 +14,7 @@ pub record Applied (F : Type 0) : Type 0 where
 -- The effect of a turn on a hart's caches: nothing, a fence drops what it covers, or everything is dropped.
 pub data Effect (F : Type 0) : Type 0 where
   Nothing : Effect F
+  -- A fence drops what it covers.
   Drops : F → Effect F
   Empties : Effect F
 

@@ -77,8 +77,8 @@ pub record WasStruck {F : Type 0} (o : Opening F) (turns : List (Turn F)) (t pla
   pub since : place ≤ place_after o older
   pub strikes : Strikes flush (effect o older turn t)
 
--- If a hart asked a fence and polled later, its call succeeded: at each hart that it asked, the fence was applied or
--- the caches were emptied, at the ask or later.
+-- If a hart asked a fence and polled later, then at each hart that it asked the fence was applied, or the caches were
+-- emptied, at the ask or later.
 abbrev pub SuccessStrikes : Type 0 → Type 0
 SuccessStrikes F =
     (o : Opening F) (n : ℕ) (newer between older : List (Turn F)) (x : ℕ) (asked : ℕ → Bool) (flush : F) (t : ℕ)

@@ -48,7 +48,7 @@ module _ {F : Type 0} where
   IsOf t asked None = ⊥
   IsOf t asked (Some call) = (call.place ≡ asked.place) × (call.flush ≡ asked.flush) × (has call.asked t ≡ true)
 
-  -- An opening that a board of n harts can have. The fences that wait at a hart come from distinct other harts, each
+  -- A consistent opening of a board of n harts. The fences that wait at a hart come from distinct other harts, each
   -- from its caller's open call. Each call has a place of its own, before the first turn's. The counts agree with the
   -- waiting fences.
   pub record IsOpening (o : Opening F) (n : ℕ) : Type 0 where

@@ -18,7 +18,7 @@ module _ {F : Type 0} where
   IsRightTurn o n turns Reset = Unit
   IsRightTurn o n turns Quiet = Unit
 
-  -- The board can have this opening, and each turn is possible after those before it.
+  -- The opening is consistent (`IsOpening`), and each turn is possible after those before it.
   abbrev pub IsRight : Opening F → ℕ → List (Turn F) → Type 0
   IsRight o n [] = IsOpening o n
   IsRight o n (turn ∷ turns) = IsRightTurn o n turns turn × IsRight o n turns

@@ -114,7 +114,7 @@ module _ {F : Type 0} where
     pub stands : StandsFor o n turns fences
     pub right : IsRight o n turns
 
-  -- neither count is near its limit
+  -- both counts are below 2^63
   pub record HasRoom (fences : State F) : Type 0 where
     pub asked : fences.asked < 2 ^ 63
     pub applied : fences.applied < 2 ^ 63

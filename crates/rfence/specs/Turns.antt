@@ -2,16 +2,21 @@
 -- newest first. So the place of a turn, counted from 0, is the length of the rest of the list: the turns before it.
 use Rattle.std.specs.Prelude.{ℕ, Bool, true, false, ◌==◌}
 
--- A turn. A hart asks a fence of the harts that pass the test (SBI 8), or makes a local fence (Privileged 4.2.1;
--- Zifencei). It serves the first fence that waits there; its call ends with success; or it stops (SBI 9.2). The board
--- is reset. Or the event concerns no fence.
+-- What an event means for fences.
 pub data Turn (F : Type 0) : Type 0 where
+  -- A hart asks a fence of the harts that pass the test (SBI 8).
   Ask : ℕ → (ℕ → Bool) → F → Turn F
+  -- A hart makes a local fence (Privileged 4.2.1; Zifencei).
   Own : ℕ → F → Turn F
+  -- A hart serves the first fence that waits there (profile).
   Serve : ℕ → Turn F
+  -- A hart's fence call ends with success (profile).
   Poll : ℕ → Turn F
+  -- A hart stops (SBI 9.2).
   Stop : ℕ → Turn F
+  -- The board is reset (SBI 10).
   Reset : Turn F
+  -- The event concerns no fence.
   Quiet : Turn F
 
 module _ {F : Type 0} where

@@ -1,5 +1,5 @@
--- What the words of a command line ask for: one of three tasks, with its FILE, and of a run the file that its record is kept in,
--- where one is named.
+-- What the words of a command line ask for: one of three tasks, its FILE, and for `run` the file in which to keep the record, if
+-- one is named.
 use Rattle.std.specs.Prelude.{◌==◌, ◌&&◌, ◌||◌, Bool, true, false, not, List, [], ◌∷◌, Option, Some, None, codes, option_and_then, option_map, if◌then◌else◌}
 use Rattle.std.specs.Str.{bytes_eq}
 use Rattle.clap.specs.Lexer.{long_of}
@@ -60,12 +60,12 @@ abbrev pub unless_faulty : Kinds → Option Invocation → Option Invocation
 unless_faulty [] found = found
 unless_faulty (fault ∷ faults) found = None
 
--- What clap's meaning of the command gives for the words, the program's own name first: none where it has a fault to tell of them, or
--- help or the version to show.
+-- The task that clap's rules give for the words of a command line, the program's own name first. None: clap finds a
+-- fault, or shows help or the version.
 abbrev pub asked : List Text → Option Invocation
 asked words = unless_faulty (fault_of sbiboard words) (option_and_then with_file (subcommand_of sbiboard words))
 
--- What a task asks for.
+-- The task of a subcommand.
 abbrev pub task_words : Subcommand → Invocation
 task_words (Run path kept) = asking (codes "run") path.now (option_map (λ name. name.now) kept)
 task_words (Replay path) = asking (codes "replay") path.now None
@@ -144,7 +144,7 @@ invocation_by name rest =
     if bytes_eq (codes "run") name then option_map (λ found. asking name found.0 found.1) (run_in rest)
     else option_map (λ path. asking name path None) (file_in rest)
 
--- What a line asks for: the program's own name, a subcommand's, and its words.
+-- The task that a command line names: the program's own name, a subcommand's name, and its words.
 abbrev pub invocation_of : List Text → Option Invocation
 invocation_of (own ∷ name ∷ rest) = if is_task name then invocation_by name rest else None
 invocation_of words = None

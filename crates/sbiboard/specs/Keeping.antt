@@ -20,7 +20,7 @@ steps_text (s ∷ ss) = accepted_line s ++ steps_text ss
 abbrev pub AppendsLines : (old new : Option (List ℕ)) → Type 0
 AppendsLines old new = (steps : List Step) × Appends old new (steps_text steps)
 
--- The outcome of a run: a record that was kept in part comes before how the run ended.
+-- The outcome of a run: the reason if its record was kept only in part, otherwise how the run ended.
 abbrev pub reported_as : Outcome → Result (Unit {0}) KeepFault → Outcome
 reported_as outcome (Ok done) = outcome
 reported_as outcome (Err Failed) = Io

@@ -35,7 +35,7 @@ is_reported Differs = false
 is_reported NoMemory = true
 is_reported Io = true
 
--- How a run ends with an error of the system: refused memory is that, and any other failed.
+-- The outcome of an error of the system: NoMemory if memory was refused, otherwise Io.
 pub record FailsAs (kind : ErrorKind) (outcome : Outcome) : Type 0 where
   pub memory : kind ≡ io_kinds.OutOfMemory → outcome ≡ NoMemory
   pub others : kind ≢ io_kinds.OutOfMemory → outcome ≡ Io

@@ -105,7 +105,7 @@ LineReadsBack = (n : ℕ) (step : Answered) → FitsAnswered step
 abbrev pub AreComments : List ℕ → Type 0
 AreComments text = AllByRecursion (λ line. IsLine line []) (lines text)
 
--- a board's table is comments
+-- each line of a board's table is a comment, or has no words
 abbrev pub TableIsComments : Type 0
 TableIsComments = (o : Opening) (past : List Event) → AreComments (table o past)
 

@@ -96,7 +96,7 @@ abbrev pub Writes : (Ends : Outcome → List ℕ → Type 0) → Outcome → Opt
 Writes Ends Io old new = Unit {0}
 Writes Ends outcome old new = (text : List ℕ) × Ends outcome text × Appends old new text
 
--- if a source's script was run, the source was read to its end
+-- with the outcomes Good, HistoryFull, Stuck and Differs, the source was read to its end
 abbrev pub EndsRead : Outcome → Option (List ℕ) → Type 0
 EndsRead Good left = IsAtEnd left
 EndsRead HistoryFull left = IsAtEnd left
@@ -104,7 +104,7 @@ EndsRead Stuck left = IsAtEnd left
 EndsRead Differs left = IsAtEnd left
 EndsRead outcome left = Unit {0}
 
--- the writer holds none of the text back
+-- with the same outcomes, the writer holds none of the text back
 abbrev pub EndsFlushed : Outcome → (is_flushed : Bool) → Type 0
 EndsFlushed Good is_flushed = is_flushed ≡ true
 EndsFlushed HistoryFull is_flushed = is_flushed ≡ true
@@ -112,7 +112,7 @@ EndsFlushed Stuck is_flushed = is_flushed ≡ true
 EndsFlushed Differs is_flushed = is_flushed ≡ true
 EndsFlushed outcome is_flushed = Unit {0}
 
--- the counts of failed calls of a reader and of a writer: one is higher if and only if the outcome says so
+-- the counts of failed calls of a reader and of a writer: one is higher if and only if the outcome is Io
 abbrev pub CountsEnd : Outcome → (reader reader' writer writer' : ℕ) → Type 0
 CountsEnd Io reader reader' writer writer' = (reader < reader') ⊎ (writer < writer')
 CountsEnd outcome reader reader' writer writer' = (reader' ≡ reader) × (writer' ≡ writer)

@@ -17,7 +17,7 @@ abbrev pub CountsFault : (old new : ℕ) → ReadFault → Type 0
 CountsFault old new Failed = old < new
 CountsFault old new (NoScript fault) = new ≡ old
 
--- What was read took no call that failed, and a fault has its cause.
+-- If reading succeeded, no call failed. It failed with a fault of the system if and only if a call failed.
 abbrev pub CountsReading : {T : Type 0} → (old new : ℕ) → Result T ReadFault → Type 0
 CountsReading old new result = MatchResult result (λ _. new ≡ old) (CountsFault old new)
 
@@ -56,6 +56,6 @@ IsRead bytes (Ok script) = IsAnswered bytes (Ok script)
 IsRead bytes (Err (NoScript fault)) = IsAnswered bytes (Err fault)
 IsRead bytes (Err Failed) = Unit {0}
 
--- A script is read of bytes, which are those of the source up to the limit, where they are known.
+-- The result of reading is right for some bytes, which are those of the source up to the limit, if they are known.
 abbrev pub ReadsScript : (old : Option (List ℕ)) → Result Script ReadFault → Type 0
 ReadsScript old result = (bytes : List ℕ) × IsRead bytes result × IfSome old (λ all. bytes ≡ take read_limit all)

@@ -77,7 +77,7 @@ pub record RunsOnThreads (lets : ℕ → ℕ → Bool → Type 0) (c : Config) (
   pub text_is : text ≡ run_text (opening_at c) past end
   pub accepted : length text ≤ most_bytes → EndsCheck text Good (agrees_text (length past))
 
--- A gate that is always open gives these answers.
+-- The answers of a gate that is always open.
 abbrev pub open_lets : ℕ → ℕ → Bool → Type 0
 open_lets actor ordinal may = may ≡ true
 

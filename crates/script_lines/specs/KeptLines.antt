@@ -34,7 +34,8 @@ abbrev pub plain_line : (number : ℕ) → Plain → (numbers : List ℕ) → Li
 plain_line number plain
     numbers = record { number = number; doing = Step plain.actor (op_made plain.op numbers); said = plain.said }
 
--- The line has a reply if and only if the first of these lines has one: a trace's lines all have one, a schedule's none.
+-- If there are lines, this line has a reply if and only if the first of them has one: a trace's lines all have one, a
+-- schedule's none.
 abbrev pub IsLike : List Line → Line → Type 0
 IsLike [] line = Unit {0}
 IsLike (first ∷ lines) line = is_some first.said ≡ is_some line.said

@@ -22,7 +22,7 @@ use Rattle.guest_programs.specs.Steps.{actor_of, AreOwn, op_of, steps, Task}
 abbrev pub words_of : (seed order : ℕ) → Lcg
 words_of seed order = started 128 cheap_multiplier seed (increment_of 128 order)
 
--- How an order's steps are picked: uniformly for even numbers, by ranks for odd ones.
+-- How an order's steps are picked: by random words for even numbers, by ranks for odd ones.
 abbrev pub picker_of : (harts seed order : ℕ) → Picker
 picker_of harts seed order =
     if order % 2 == 0 then Even (words_of seed order) else Ranked (ranking harts (words_of seed order))

@@ -1,4 +1,4 @@
-//! How the next step is picked: uniformly, or by ranks (profile).
+//! How the next step is picked: by random words, or by ranks (profile).
 ghost use Rattle.std.specs.Prelude.{◌≡◌, ◌≤◌, IfOk};
 ghost use Rattle.seeded_orders.specs.Orders.{pick, picked, picker_of};
 
@@ -11,7 +11,7 @@ use std::alloc::{AllocError, Global};
 /// What picks each step of an order (profile).
 #[derive(Drop)]
 pub(crate) enum Picker {
-    /// The generator's next word: each step is equally likely.
+    /// The step at the generator's next word, modulo their number.
     Even(Pcg64Dxsm),
     /// The step whose kind has the highest rank.
     Ranked(Ranks),

@@ -29,7 +29,7 @@ access_fault Fetch = InstructionAccessFault
 access_fault Load = LoadAccessFault
 access_fault Store = StoreAccessFault
 
--- The cause of an access that the page tables don't allow, by its kind.
+-- The cause of a page fault, by the kind of the access.
 abbrev pub page_fault : Kind → Cause
 page_fault Fetch = InstructionPageFault
 page_fault Load = LoadPageFault

@@ -18,7 +18,7 @@ unfoldable pub word_in : List ℕ → ℕ → Option ℕ
 word_in words a =
     if nat_le RAM_START a && nat_lt a (2 ^ 64) && (a % 8 == 0) then slice_get words ((a - RAM_START) / 8) else None
 
--- A RAM of so many pages with every word 0, as at the opening and after a cold reboot (profile).
+-- A RAM of so many pages with every word 0, as on a new board and after a cold reboot (profile).
 unfoldable pub zero_memory : (pages : ℕ) → ℕ → Option ℕ
 zero_memory pages a = if is_in_ram pages a then Some 0 else None
 
@@ -26,7 +26,7 @@ zero_memory pages a = if is_in_ram pages a then Some 0 else None
 abbrev pub written : (ℕ → Option ℕ) → (at value : ℕ) → ℕ → Option ℕ
 written memory at value a = if a == at then Some value else memory a
 
--- the number of pages that the words fill
+-- the number of whole pages that the words fill
 abbrev pub pages_of : List ℕ → ℕ
 pages_of words = length words / PAGE_WORDS
 

@@ -41,7 +41,7 @@ abbrev pub kept_of : Spaces → ℕ → ℕ
 kept_of spaces value =
     value / 2 ^ MODE_BIT * 2 ^ MODE_BIT + cut_asid spaces (asid_of value) * 2 ^ PPN_BITS + root_of value
 
--- Whether a write stores the value: its MODE is a paging mode that the board implements.
+-- Whether a write sets a paging mode: its MODE is one that the board implements.
 abbrev pub is_stored : Spaces → ℕ → Bool
 is_stored spaces value = translates value && supports spaces (paging_of value)
 
@@ -58,6 +58,6 @@ satp_of_write spaces value =
 abbrev pub satp_written : Spaces → (satp value : ℕ) → ℕ
 satp_written spaces satp value = unwrap_or (satp_of_write spaces value) satp
 
--- A value that satp can have: 0, or one whose MODE is a paging mode.
+-- A value is 0, or its MODE is a paging mode.
 abbrev pub IsSatp : ℕ → Type 0
 IsSatp satp = translates satp ≡ false → satp ≡ 0

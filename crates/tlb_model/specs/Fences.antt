@@ -9,7 +9,7 @@ use Rattle.tlb_model.specs.declared.fence.Range.{Range}
 abbrev pub meets : Range → (page bytes : ℕ) → Bool
 meets range page bytes = nat_lt (max range.start page) (min (range.start + range.size) (page + bytes))
 
--- an address that both have
+-- an address of the range that is also in the page
 pub record HaveInCommon (range : Range) (page bytes : ℕ) : Type 0 where
   pub address : ℕ
   pub from_start : range.start ≤ address

@@ -6,7 +6,7 @@ use Rattle.tlb_model.specs.declared.fence.Flush.{Flush}
 use Rattle.tlb_watch.specs.declared.effect.CacheEffect.{CacheEffect}
 use Rattle.tlb_watch.specs.declared.effect.CacheEffect.TheVariants.{Nothing, Applied, Reset}
 
--- What it does to the caches of hart h.
+-- What an event does to the caches of hart h.
 abbrev pub effect_on : CacheEffect → (h : ℕ) → Effect Flush
 effect_on Nothing h = applied.Nothing
 effect_on (Applied x flush) h = if x == h then Drops flush else applied.Nothing

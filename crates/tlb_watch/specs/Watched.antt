@@ -17,7 +17,7 @@ pub record WatchedAddress : Type 0 where
   pub walks : List Walking
   pub entries : List Entry
 
--- What is watched there after a history.
+-- What is watched of an address at a hart after a history.
 abbrev pub watch_of : Opening → List Event → HartAddress → WatchedAddress
 watch_of o past at =
     record { at = at; walks = walks_of o past at.hart; entries = watched o past at.hart at.address }
@@ -26,7 +26,7 @@ watch_of o past at =
 abbrev pub opened_entries : Opening → (h : ℕ) → List Entry
 opened_entries o h = map (λ (fill : Numbered Entry). fill.item) (tlb_at o h).live
 
--- with these walks, one more look at the page tables in a memory
+-- What is watched after one more look: these entries, and those that walks give by the page tables in a memory.
 abbrev pub looked : (memory : ℕ → Option ℕ) → HartAddress → List Walking → List Entry → WatchedAddress
 looked memory at walks entries =
     record { at = at; walks = walks; entries = entries ++ given_by memory at.address [] walks }
