@@ -3,7 +3,7 @@ import os
 import re
 import subprocess
 
-from .fixtures import RECORDS, ROOT, Test, must, named, read, script, shown
+from .fixtures import RECORDS, ROOT, Test, must, must_have, named, read, script, shown
 
 STATS = os.path.join(ROOT, "tools/record-stats")
 SMALL = """record 3 1 2 70
@@ -78,6 +78,7 @@ class Figures(Test):
         path, page = script(self.room, SMALL.encode()), os.path.join(self.room, "page.html")
         printed, _ = ran(["--most", "1", "--page", page, path])
         must(f"it printed {printed}", printed == TABLES)
+        must_have(ran(["--most", "-1", path], 2)[1], "argument --most: '-1' is below 0")
         text = read(page)
         if re.search(r"https?://", text.replace("http://www.w3.org/", "")) or text.count("<rect") != 7 or text.count("<table>") != 5:
             raise AssertionError(f"the page has {text.count('<rect')} calls in its picture, and {text.count('<table>')} tables")

@@ -63,6 +63,8 @@ def picture(room):
     tool([TIMELINE, "--steps", "1-8", record("kernel")], 2)
     _, told = tool([TIMELINE, script(room, b"board 1 1 1 0 0x80000000 0\n0 advance\nhello\n")], 1)
     must(f"it said {shown(told)}", b"line 3: 'hello' is no line of a record, a trace or a schedule" in told)
+    _, told = tool([TIMELINE, script(room, b"board 1 1 1 0 0x80000000 0\n" + 30 * b"hello " + b"\n")], 1)
+    must(f"of a long line it said {shown(told)}", b"line 2: '" + 10 * b"hello " + b"..' is no line of a record" in told)
 
 
 def many_steps(harts, steps):

@@ -47,6 +47,9 @@ class ToTraceOptions(Test):
         must("no file", printed_by([TO_TRACE, os.path.join(self.room, "none")], 1)[0] == "")
         asked = write(os.path.join(self.room, "asked"), "# of all\n#! never 0 poll\nboard\n#! some 0 advance\n")
         with_them, _ = printed_by([TO_TRACE, "--conditions", asked, path])
+        printed, said = printed_by([TO_TRACE, "--report", "--conditions", asked, path], 2)
+        must(f"conditions of a trace that isn't written: {printed!r}, {said!r}", not printed and "--conditions stand in the trace" in said)
+        must("the report has conditions in it", printed_by([TO_TRACE, "--report", "--conditions", asked, "--out", made, path])[0] == report and "#! some 0 advance\n" in read(made))
         heads = [line for line in with_them.split("board ")[0].splitlines() if line.startswith("#!")]
         must(f"{with_them}", heads == ["#! never 0 poll", "#! some 0 advance"] and [line for line in with_them.splitlines() if line not in heads] == trace.splitlines())
 

@@ -52,6 +52,10 @@ def answer_of(words, at):
         raise Broken(at, f"'{' '.join(words)}' is no reply") from None
 
 
+def shortened(line):
+    return line if len(line) <= 60 else f"{line[:60]}.."
+
+
 def of_script(text):
     """The same of a trace, or of a schedule, which has no answers."""
     board, steps = None, []
@@ -70,7 +74,7 @@ def of_script(text):
             op += (0,) * (9 - len(op)) if op[0] == "ecall" else ()
             steps.append((actor, op, answer_of(reply.split(), at) if arrow else None, f"line {at}" + (f": {comment.strip()}" if comment.strip() else "")))
         except (ValueError, TypeError, IndexError):
-            raise Broken(at, f"'{body.strip()}' is no line of a record, a trace or a schedule") from None
+            raise Broken(at, f"'{shortened(body.strip())}' is no line of a record, a trace or a schedule") from None
     if board is None:
         raise Broken(1, "there is no board line, and no line 'record HARTS'")
     return board, steps, {}, None

@@ -223,13 +223,19 @@ def write(to, text):
 # ---- signals
 
 
+ENDING = (signal.SIGINT, signal.SIGTERM, signal.SIGHUP)
+
+
 def kill(number, _):
+    # (a second one, as `timeout` sends, would break off what takes all away)
+    for it in ENDING:
+        signal.signal(it, signal.SIG_IGN)
     raise Killed(number)
 
 
 def guarded(words):
     """Ends by the signal that ends it, once all is taken away; a signal that was ignored stays ignored."""
-    for number in (signal.SIGINT, signal.SIGTERM, signal.SIGHUP):
+    for number in ENDING:
         if signal.getsignal(number) != signal.SIG_IGN:
             signal.signal(number, kill)
     try:
