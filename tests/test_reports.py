@@ -314,6 +314,9 @@ class Reports(Test):
             report = reported(text)
             must(f"{what}: the report is {list(report.lines())}", report.is_bad and at in [item.at for item in report.items[kind]])
             must_add_up(what, report)
+        for what, text in (("entries alone", BOOT), ("a call that can't be judged", BOOT + answered(PMU, 0, ret="-9 0"))):
+            report = reported(text, None, (), (2, 0))
+            must(f"{what}: the report is {list(report.lines())}", report.is_bad and any(line.endswith(", and no call") for line in report.lines()))
         for what, text, _, _ in WRONG[::9]:
             found = subprocess.run([TO_TRACE, "--report", script(self.room, text.encode())], stdout=subprocess.PIPE, stderr=subprocess.PIPE)
             must(f"{what}: status {found.returncode}, and it said {shown(found.stderr)}", found.returncode == 5)
@@ -324,9 +327,9 @@ class Reports(Test):
             report = reported(text)
             must(f"{what}: the report is {list(report.lines())}", not report.is_bad and not (kind and at not in [item.at for item in report.items[kind]]))
             must_add_up(what, report)
-        must("an error of the version that has the extension is no fault", not reported(BOOT + "0 call 0x535441 0 0 0 0 0 0 0\n0 ret -9 0\n", None, (), (1, 0)).is_bad)
+        must("an error of the version that has the extension is no fault", not reported(TWO + "0 call 0x535441 0 0 0 0 0 0 0\n0 ret -9 0\n", None, (), (1, 0)).is_bad)
         must("an error that the function's section doesn't name passes by --spec 2.0", reported(BOOT + answered(HSM, 2, 0, ret="-9 0"), None, (), (2, 0)).is_bad)
-        path = script(self.room, (BOOT + answered(PMU, 0, ret="-9 0")).encode())
+        path = script(self.room, (TWO + answered(PMU, 0, ret="-9 0")).encode())
         found = [subprocess.run([TO_TRACE, "--report", *words, path], stdout=subprocess.PIPE).returncode for words in ((), ("--spec", "2.0"))]
         must(f"an error of 2.0 has the statuses {found} without and with --spec 2.0", found == [5, 0])
 

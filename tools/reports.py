@@ -93,9 +93,14 @@ class Report:
         return sum(count for kind, count in self.counts.items() if kind not in NOT_COMPARED)
 
     @property
+    def is_empty(self):
+        """Whether no call was compared: then the entries say nothing of the firmware's calls."""
+        return all(self.classes[line.number] in NOT_COMPARED for line in self.record.lines if line.kind == "call")
+
+    @property
     def is_bad(self):
-        """Whether something is wrong with what was recorded, or nothing was compared."""
-        return any(self.items[kind] for kind in FAULTS) or self.compared == 0
+        """Whether something is wrong with what was recorded, or no call was compared."""
+        return any(self.items[kind] for kind in FAULTS) or self.is_empty
 
     def lines(self):
         total = len(self.classes)
@@ -105,7 +110,7 @@ class Report:
                 yield f"  {self.counts[kind]} {said}"
         if self.counts[PASSED]:
             yield f"  {self.counts[PASSED]} are passed over"
-        yield f"compared: {self.compared} of {total}, {100 * self.compared / total:.1f} %"
+        yield f"compared: {self.compared} of {total}, {100 * self.compared / total:.1f} %" + (", and no call" if self.is_empty else "")
         yield f"the record ends: {ENDINGS[self.record.end]}"
         for kind, (_, title) in CLASSES.items():
             yield f"{title}: {len(self.items[kind])}"
