@@ -92,6 +92,27 @@ digit_small radix n b more read = small (is_digit b radix) (ltb (n * radix + dig
   small true false fits read = absurd cc
   small false fits is read = absurd cc
 
+-- up to three digits, each read on its own
+digits_read : (bytes ds : List ℕ) (d n : ℕ) (others rest : List ℕ) → bytes ≡ ds ++ rest → ds ≡ d ∷ others → n < 2 ^ 64 → digits_after 10 0 ds ≡ Some n → BeginsDigits 10 bytes n rest
+digits_read bytes ds d n others rest parts filled small read =
+    let numeral = numeral_read 10 ds d n others (omega arith) small filled read in
+    (ds, parts, numeral.0, numeral.1)
+
+pub one_digit_begins : (bytes rest : List ℕ) (d n : ℕ) → bytes ≡ d ∷ rest → digit_after 10 0 d ≡ Some n → BeginsDigits 10 bytes n rest
+one_digit_begins bytes rest d n at read =
+    digits_read bytes (d ∷ []) d n [] rest at refl (digit_small 10 0 d n read) (ap (and_digits (λ (k : ℕ). Some k)) read)
+
+pub two_digits_begin : (bytes middle rest : List ℕ) (c d m n : ℕ) → bytes ≡ c ∷ middle → digit_after 10 0 c ≡ Some m → middle ≡ d ∷ rest → digit_after 10 m d ≡ Some n → BeginsDigits 10 bytes n rest
+two_digits_begin bytes middle rest c d m n at first next second =
+    digits_read bytes (c ∷ d ∷ []) c n (d ∷ []) rest (at ∙ ap (λ (b : List ℕ). c ∷ b) next) refl (digit_small 10 m d n second)
+    (ap (and_digits (λ (k : ℕ). digits_after 10 k (d ∷ []))) first ∙ ap (and_digits (λ (k : ℕ). Some k)) second)
+
+pub three_digits_begin : (bytes middle last rest : List ℕ) (b c d k m n : ℕ) → bytes ≡ b ∷ middle → digit_after 10 0 b ≡ Some k → middle ≡ c ∷ last → digit_after 10 k c ≡ Some m → last ≡ d ∷ rest
+    → digit_after 10 m d ≡ Some n → BeginsDigits 10 bytes n rest
+three_digits_begin bytes middle last rest b c d k m n at first next second behind_it third =
+    digits_read bytes (b ∷ c ∷ d ∷ []) b n (c ∷ d ∷ []) rest (at ∙ ap (λ (l : List ℕ). b ∷ l) (next ∙ ap (λ (l : List ℕ). c ∷ l) behind_it)) refl (digit_small 10 m d n third)
+    (ap (and_digits (λ (j : ℕ). digits_after 10 j (c ∷ d ∷ []))) first ∙ ap (and_digits (λ (j : ℕ). digits_after 10 j (d ∷ []))) second ∙ ap (and_digits (λ (j : ℕ). Some j)) third)
+
 -- ---- numbers
 
 pub hex_begins : (bytes front : List ℕ) (n : ℕ) (rest : List ℕ) → bytes ≡ codes "0x" ++ front → n < 2 ^ 64 → BeginsDigits 16 front n rest → BeginsWord bytes n rest

@@ -5,6 +5,7 @@ mod blocks;
 mod board_line;
 mod draft;
 mod fault;
+mod hart_digits;
 mod laws;
 mod line_kind;
 mod numbers;

@@ -12,6 +12,7 @@ ghost use Rattle.script_lines.specs.KeptLines.{plain_line};
 ghost use Rattle.script_lines.specs.Names.{op_word, said_word};
 ghost use Rattle.script_lines.specs.Packing.{FitsKept, op_made};
 
+use crate::hart_digits::plain_hart;
 use crate::numbers::MOST_ARGUMENTS;
 use arrayvec::ArrayVec;
 use board_terms::{Actor, Op};
@@ -206,7 +207,7 @@ fn plain_actor(bytes: &[u8]) -> Option<(Actor, &[u8])>
     match bytes {
         [b'c', rest @ ..] => Some((Actor::Clock, rest)),
         _ => {
-            let (hart, rest) = plain_digits(bytes, 10)?;
+            let (hart, rest) = plain_hart(bytes)?;
             if hart <= LAST_HART {
                 Some((Actor::Hart(hart), rest))
             } else {
