@@ -82,10 +82,10 @@ module _ (Tries : List Tried → Type 0) (harts : ℕ) (is_cut : Bool) (conditio
       → (told : List Extent) × (extents all ≡ extents first ++ told) × (runs ≡ 0 → told ≡ [])
       × (runs ≢ 0 → AreMetBy harts Tries TellsRuns conditions told)
   runs-told zero none some each =
-      ([], same-extents all first (none refl) ∙ sym (append-nil (extents first)), (λ zero. refl), (λ no. absurd (no refl)))
+      ([], same-extents all first (none refl) ∙ sym (append-nil (extents first)), (λ is. refl), (λ no. absurd (no refl)))
   runs-told (suc n) none some each =
       let adds = some (λ e. absurd (let u = e in cc)) in
-      (adds.told, adds.reached, (λ zero. absurd (let u = zero in cc)), (λ some. met-by Tries TellsRuns harts is_cut conditions first all adds each))
+      (adds.told, adds.reached, (λ is. absurd (let u = is in cc)), (λ more. met-by Tries TellsRuns harts is_cut conditions first all adds each))
 
 no-points : (begun : FileReport) → begun.points.items ≡ [] → (verdicts begun ≡ []) × (extents begun ≡ [])
 no-points begun none = (ap (map (λ (point : Point). point.verdict)) none, ap (map (λ (point : Point). point.reach)) none)
@@ -112,8 +112,8 @@ by-tried options bytes file it tried each =
       told = runs.1 ∙ ap (λ (told : List Extent). told ++ runs.0)
           (tried.orders.reached ∙ ap (λ (told : List Extent). told ++ tried.orders.told) none.1);
       many = many-verdicts options.runs (points_of it.conditions) (length (verdicts tried.first)) (length (verdicts it.judged))
-          (long Orders (TellsOrders options.seed) harts is_cut it.conditions tried.begun tried.first tried.orders
-          ∙ ap (λ (found : List Verdict). length found + points_of it.conditions) none.0)
+          (let before : length (verdicts tried.begun) ≡ 0 = ap (λ (found : List Verdict). length found) none.0 in
+          let t = long Orders (TellsOrders options.seed) harts is_cut it.conditions tried.begun tried.first tried.orders in omega arith)
           (λ none. ap (λ (xs : List Verdict). length xs) (same-verdicts it.judged tried.first (tried.no_runs none)))
           (λ some. long Runs TellsRuns harts is_cut it.conditions tried.first it.judged (tried.runs some));
       time = tried.time;

@@ -24,7 +24,8 @@ module _ (options : Options) (script : Script) (conditions : List Condition) whe
     pub program : IsProgram (content script.body)
     pub are : AreVerdicts (widest script.config) (task_of (content script.body)) options.limit.seconds conditions found
 
-  -- By the orders of a program that were tried one point is found of each condition, and, if runs on threads were asked for, one more by their records. They are cut short only if there is a time limit.
+  -- By the orders of a program that were tried one point is found of each condition, and, if runs on threads were asked
+  -- for, one more by their records. They are cut short only if there is a time limit.
   pub record AreTried (file : FileReport) : Type 0 where
     pub program : IsProgram (content script.body)
     pub begun : FileReport
@@ -38,12 +39,14 @@ module _ (options : Options) (script : Script) (conditions : List Condition) whe
         file.is_cut conditions first file
     pub time : file.is_cut ≡ true → options.limit.seconds ≢ None
 
-  -- What is found of a script. `explore` looks at all orders of a program, and no other script has orders. `test` looks at all orders or at some. (What it finds of schedules and traces is tested.)
+  -- What is found of a script. `explore` looks at all orders of a program, and no other script has orders. `test` looks at
+  -- all orders or at some. (What it finds of schedules and traces is tested.)
   abbrev pub IsFoundOf : Mode → FileReport → Type 0
   IsFoundOf Explore file = IsExplored (verdicts file) ⊎ ((¬ IsProgram (content script.body)) × (verdicts file ≡ Fails ∷ []))
   IsFoundOf Test file = IsExplored (verdicts file) ⊎ AreTried file ⊎ (¬ IsProgram (content script.body))
 
--- What is found of bytes: they are this script and have these conditions, so much is found of these, and then something fails for each comment that looks like a condition.
+-- What is found of bytes: they are this script and have these conditions, so much is found of these, and then something
+-- fails for each comment that looks like a condition.
 pub record IsFoundOfScript (options : Options) (bytes : List ℕ) (file : FileReport) : Type 0 where
   pub script : Script
   pub conditions : List Condition

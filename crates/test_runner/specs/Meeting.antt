@@ -24,7 +24,8 @@ pub record IsProgramWith (bytes : List ℕ) (script : Written) (conditions : Lis
   pub have : ReadsConditions bytes (map condition_value conditions)
 
 -- The bytes are a program. All of its orders, on its board with the widest limit, meet each condition that the bytes have, and
--- some order has the step of each `some`. Each condition fits the board; unless it begins with `maybe`, it says something, and if it
+-- some order has the step of each `some`. Each condition fits the board; unless it begins with `maybe`, it says something,
+-- and if it
 -- is an `end`, some order ends. Without a condition some order ends, and none stuck. So many verdicts were found.
 pub record AreMetByAll (bytes : List ℕ) (found : List Verdict) : Type 0 where
   pub script : Written
@@ -34,7 +35,8 @@ pub record AreMetByAll (bytes : List ℕ) (found : List Verdict) : Type 0 where
       → HoldsSo (widest script.config) (task_of script.content) (slice_get conditions place)
   pub many : length found ≡ points_of conditions
 
--- Records were tried, some at least, and they meet each of these conditions, which have no misfit; without a condition none ended stuck. This is told of how many they are.
+-- Records were tried, some at least, and they meet each of these conditions, which have no misfit; without a condition none
+-- ended stuck. The extents are right for these records (`Tells`).
 pub record AreMetBy (harts : ℕ) (Tries : List Tried → Type 0) (Tells : List Tried → Extent → Type 0) (conditions : List Condition)
     (told : List Extent) : Type 0 where
   pub tried : List Tried
@@ -43,7 +45,9 @@ pub record AreMetBy (harts : ℕ) (Tries : List Tried → Type 0) (Tells : List 
   pub fit : (place : ℕ) → place < points_of conditions → HasNoMisfit harts (slice_get conditions place)
   pub tells : EachIs (Tells tried) told
 
--- The bytes are a program. Those of its orders that were tried meet each condition that the bytes have, and so do the records of runs on threads, if some were asked for. So many points were found, and each has the number of tried records. If not all that were asked for were tried, there is a time limit.
+-- The bytes are a program. Those of its orders that were tried meet each condition that the bytes have, and so do the
+-- records of runs on threads, if some were asked for. So many points were found, and the extent of each has the number of
+-- tried records. If not all that were asked for were tried, there is a time limit.
 pub record AreMetByTried (options : Options) (bytes : List ℕ) (file : FileReport) : Type 0 where
   pub script : Written
   pub conditions : List Condition

@@ -45,7 +45,8 @@ abbrev pub behind_asked : Orders → ℕ
 behind_asked (First many) = many
 behind_asked (One order) = order + 1
 
--- These are the records of a program's orders that are asked for, the last in front: of each, or of the first ones if the time was over.
+-- These are the records of a program's orders that are asked for, the last in front: of each, or of the first ones if the
+-- time was over.
 pub record AreTriedOf (c : Config) (content : Content) (seed : ℕ) (asked : Orders) (is_cut : Bool) (tried : List Tried) : Type 0 where
   pub to : ℕ
   pub are : AreOrders c content seed (first_asked asked) tried to
@@ -93,7 +94,8 @@ abbrev pub IsOfAll : Option Condition → Type 0
 IsOfAll None = ⊥
 IsOfAll (Some condition) = (ends : Vec Ending) × (condition.rule ≡ CanEnd ends)
 
--- why these records don't judge it: there are none, which may be for want of time only if they are cut short by it; or it is about all orders
+-- why these records don't judge it: there are none, which may be for want of time only if they are cut short by it; or it
+-- is about all orders
 abbrev pub IsUnjudgedBy : (is_cut : Bool) → Option Condition → List Tried → Unjudged → Type 0
 IsUnjudgedBy is_cut asked tried NoTime = (tried ≡ []) × (is_cut ≡ true)
 IsUnjudgedBy is_cut asked tried NoOrder = tried ≡ []
@@ -129,15 +131,16 @@ counted tried = min (length tried) (2 ^ 64 - 1)
 abbrev pub AreCutOff : List Tried → ℕ → Type 0
 AreCutOff tried cut = (cut ≡ 0) ⊎ HaveEnded endings.HistoryFull tried cut
 
--- The point has the number of these orders, and their seed.
+-- The extent has the number of these orders, and their seed.
 abbrev pub TellsOrders : (seed : ℕ) → List Tried → Extent → Type 0
 TellsOrders seed tried reach = (cut : ℕ) × (reach ≡ spans.Tried (counted tried) seed cut) × AreCutOff tried cut
 
--- The point has the number of these runs on threads.
+-- The extent has the number of these runs on threads.
 abbrev pub TellsRuns : List Tried → Extent → Type 0
 TellsRuns tried reach = (cut : ℕ) × (reach ≡ spans.Runs (counted tried) cut) × AreCutOff tried cut
 
--- By records that were tried, one point more is found of each condition, or of a program without any, in the conditions' order. Each has what is told of these records.
+-- By records that were tried, one point more is found of each condition, or of a program without any, in the conditions'
+-- order. The extents of these points are right for these records (`Tells`).
 pub record AddsPoints (Tries : List Tried → Type 0) (Tells : List Tried → Extent → Type 0) (harts : ℕ) (is_cut : Bool)
     (conditions : List Condition) (before after : FileReport) : Type 0 where
   pub tried : List Tried

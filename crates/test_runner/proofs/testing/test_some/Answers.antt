@@ -11,13 +11,13 @@ returns g c =
     let first = c.test_orders.new.file in
     let file = c.test_runs.new.file in record {
       program = c.requires;
-      begun = c.new.result;
-      none = c.new.ensures.empty;
+      begun = c.new-file.result;
+      none = c.new-file.ensures.empty;
       first = first;
       orders = still-tried script options.seed options.orders (TellsOrders options.seed) conditions
-          c.new.result first first.is_cut file.is_cut c.test_runs.ensures.cut c.in_ok-test_orders.ensures.points;
+          c.new-file.result first first.is_cut file.is_cut c.test_runs.ensures.cut c.in_ok-test_orders.ensures.points;
       no_runs = c.test_runs.ensures.none;
       runs = c.in_ok-test_runs.ensures.points;
-      time = by-time options.limit.seconds c.new.result.is_cut first.is_cut file.is_cut c.new.ensures.whole c.test_orders.ensures.time
+      time = by-time options.limit.seconds c.new-file.result.is_cut first.is_cut file.is_cut c.new-file.ensures.whole c.test_orders.ensures.time
           c.test_runs.ensures.time;
     }
