@@ -97,7 +97,7 @@ by-tried options bytes file it tried each =
     let is_cut : Bool = it.judged.is_cut in
     let Orders : List Tried → Type 0 = AreTriedOf it.script.config (content it.script.body) options.seed options.orders is_cut in
     let Runs : List Tried → Type 0 = AreRunsOf it.script.config (content it.script.body) options.runs is_cut in
-    let none = no-points tried.begun tried.none in
+    let fresh = no-points tried.begun tried.none in
     let first : EachIsHolds (verdicts tried.first) =
     first-holds Runs harts is_cut it.conditions tried.first it.judged options.runs tried.no_runs tried.runs each in
     let runs = runs-told Runs harts is_cut it.conditions tried.first it.judged options.runs tried.no_runs tried.runs each in record {
@@ -110,9 +110,9 @@ by-tried options bytes file it tried each =
       runs = runs.3;
       no_runs = runs.2;
       told = runs.1 ∙ ap (λ (told : List Extent). told ++ runs.0)
-          (tried.orders.reached ∙ ap (λ (told : List Extent). told ++ tried.orders.told) none.1);
+          (tried.orders.reached ∙ ap (λ (told : List Extent). told ++ tried.orders.told) fresh.1);
       many = many-verdicts options.runs (points_of it.conditions) (length (verdicts tried.first)) (length (verdicts it.judged))
-          (let before : length (verdicts tried.begun) ≡ 0 = ap (λ (found : List Verdict). length found) none.0 in
+          (let before : length (verdicts tried.begun) ≡ 0 = ap (λ (found : List Verdict). length found) fresh.0 in
           let t = long Orders (TellsOrders options.seed) harts is_cut it.conditions tried.begun tried.first tried.orders in omega arith)
           (λ none. ap (λ (xs : List Verdict). length xs) (same-verdicts it.judged tried.first (tried.no_runs none)))
           (λ some. long Runs TellsRuns harts is_cut it.conditions tried.first it.judged (tried.runs some));
