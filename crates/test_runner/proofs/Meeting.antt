@@ -1,6 +1,7 @@
 -- From verdicts that hold to conditions that are met.
 use Rattle.std.proofs.Common.{◌≡◌, ◌≢◌, inl, inr, ℕ, zero, suc, ◌+◌, ◌<◌, List, [], ◌∷◌, ◌++◌, length, refl, sym, ap, ◌∙◌, subst, arith}
-use Rattle.std.specs.Prelude.{◌==◌, if◌then◌else◌, Bool, Vec, map, slice_get}
+use Rattle.std.specs.Prelude.{◌==◌, if◌then◌else◌, Bool, map, slice_get}
+use Rattle.std.specs.Global.{Vec}
 use Rattle.std.proofs.lemmas.List.{append-nil, length-append}
 use Rattle.conditions.specs.Condition.{Condition}
 use Rattle.guest_programs.specs.Steps.{task_of}

@@ -38,6 +38,11 @@ slice_get-either [] x (suc k) y h = absurd (none-some y h)
 slice_get-either (z ∷ xs) x zero y h = inl h
 slice_get-either (z ∷ xs) x (suc k) y h = elim (slice_get-either xs x k y h) [ inl a ↦ inl a | inr b ↦ inr (ap suc b.0, b.1) ]
 
+-- an empty list has nothing in any place
+pub none-at : {X : Type 0} (k : ℕ) (y : X) → slice_get [] k ≡ Some y → ⊥
+none-at zero y at = none-some y at
+none-at (suc k) y at = none-some y at
+
 -- each of one more
 pub each-one-more : {X : Type 0} (P : X → Type 0) (xs : List X) (x : X) → EachIs P xs → P x → EachIs P (xs ++ x ∷ [])
 each-one-more P [] x each last = (last, tt)

@@ -1,5 +1,6 @@
 use Rattle.std.proofs.Common.{◌≡◌, ◌++◌, ℕ, List, Bool, sym, ap, ◌∙◌, subst}
-use Rattle.std.specs.Prelude.{Vec, map}
+use Rattle.std.specs.Prelude.{map}
+use Rattle.std.specs.Global.{Vec}
 use Rattle.board_terms.specs.declared.config.Config.{Config}
 use Rattle.conditions.specs.Condition.{Condition}
 use Rattle.guest_script.specs.Grammar.{Content, content}

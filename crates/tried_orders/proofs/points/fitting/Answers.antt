@@ -12,8 +12,8 @@ use Rattle.tried_orders.specs.Verdicts.{IsFoundBy, Say}
 use Rattle.tried_orders.proofs.points.fitting.Goals as goal
 
 -- what the findings say is what the records say
-pub returns-2 : goal.returns-2
-returns-2 g c =
+pub returns : goal.returns
+returns g c =
     let asked : Option Condition = option_map (λ (condition : Bor Condition). condition.now) c.args.condition in
     let judgement = c.judgement_of-judgement.result in
     let harts : ℕ = c.args.trial.now.script.now.config.harts in

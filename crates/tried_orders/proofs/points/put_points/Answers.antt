@@ -1,13 +1,20 @@
-use Rattle.std.proofs.Common.{◌∷◌, ◌++◌, ℕ, Bool, List, [], inl, inr, subst, sym, ap, ◌∙◌, arith}
+use Rattle.std.proofs.Common.{◌∷◌, ◌++◌, ℕ, Bool, List, [], inl, inr, refl, subst, sym, ap, ◌∙◌, arith}
 use Rattle.std.specs.Prelude.{slice_get}
-use Rattle.std.proofs.lemmas.List.{append_assoc, length-append}
+use Rattle.std.proofs.lemmas.List.{append-nil, append_assoc, length-append}
 use Rattle.conditions.specs.Condition.{Condition}
 use Rattle.test_report.specs.declared.verdict.Extent.{Extent}
 use Rattle.test_report.specs.declared.verdict.Verdict.{Verdict}
 use Rattle.tried_orders.specs.Inside.Judging.{TellsOf}
 use Rattle.tried_orders.specs.Verdicts.{IsFoundBy}
-use Rattle.tried_orders.proofs.Trying.{each-one-more, slice_get-either}
+use Rattle.tried_orders.proofs.Trying.{each-one-more, none-at, slice_get-either}
 use Rattle.tried_orders.proofs.points.put_points.Goals as goal
+
+pub loop-place-init : goal.loop-place-init
+loop-place-init g c = (
+  refl,
+  ([], sym (append-nil _), refl, (λ all records right place verdict at. absurd (none-at place verdict at))),
+  ([], sym (append-nil _), (λ all records right. tt)),
+)
 
 pub loop-place-preserved : goal.loop-place-preserved
 loop-place-preserved g c =
@@ -36,7 +43,7 @@ loop-place-preserved g c =
         told ++ reach.0 ∷ [],
         reach.1 ∙ ap (λ (all : List Extent). all ++ reach.0 ∷ []) before.2.1 ∙ append_assoc _ told (reach.0 ∷ []),
         (λ all records right.
-            each-one-more (TellsOf c.loop-place.source c.args.trial.now.options.now.seed records) told reach.0 (before.2.2 all records right)
+            each-one-more (TellsOf c.args.tried.source c.args.trial.now.options.now.seed records) told reach.0 (before.2.2 all records right)
             (reach.2 all records right)),
       ),
     )
