@@ -1,6 +1,7 @@
 use Rattle.std.proofs.Common.{ℕ, Bool, inl, inr, sym, subst}
 use Rattle.std.specs.Prelude.{Option}
 use Rattle.std.specs.Option.{option_map}
+use denote.Ref.{Bor}
 use Rattle.conditions.specs.Condition.{Condition}
 use Rattle.outcome_statistics.specs.declared.judgement.Judgement.{Judgement}
 use Rattle.test_report.specs.declared.verdict.Verdict.{Verdict}
