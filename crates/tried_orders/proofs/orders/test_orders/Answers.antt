@@ -1,11 +1,10 @@
-use Rattle.std.proofs.Common.{◌≡◌, ◌++◌, ℕ, List, Bool, sym, ap, ◌∙◌, subst}
+use Rattle.std.proofs.Common.{◌≡◌, ◌++◌, List, Bool, sym, ap, ◌∙◌, subst}
 use Rattle.std.specs.Prelude.{map}
 use Rattle.std.specs.Global.{Vec}
 use Rattle.board_terms.specs.declared.config.Config.{Config}
 use Rattle.conditions.specs.Condition.{Condition}
 use Rattle.guest_script.specs.Grammar.{Content, content}
 use Rattle.test_report.specs.declared.point.Point.{Point}
-use Rattle.test_report.specs.declared.verdict.Extent.{Extent}
 use Rattle.test_report.specs.declared.verdict.Verdict.{Verdict}
 use Rattle.tried_orders.specs.Verdicts.{AreTriedOf, EachIsFoundBy}
 use Rattle.tried_orders.proofs.orders.test_orders.Goals as goal

@@ -1,4 +1,4 @@
-use Rattle.std.proofs.Common.{ℕ, Bool, inl, inr, sym, subst}
+use Rattle.std.proofs.Common.{inl, inr, sym, subst}
 use Rattle.std.specs.Prelude.{Option}
 use Rattle.std.specs.Option.{option_map}
 use denote.Ref.{Bor}

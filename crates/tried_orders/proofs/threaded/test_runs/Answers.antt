@@ -6,7 +6,6 @@ use Rattle.conditions.specs.Condition.{Condition}
 use Rattle.guest_script.specs.Grammar.{Content, content}
 use Rattle.outcome_statistics.specs.Records.{EachIs}
 use Rattle.test_report.specs.declared.point.Point.{Point}
-use Rattle.test_report.specs.declared.verdict.Extent.{Extent}
 use Rattle.test_report.specs.declared.verdict.Verdict.{Verdict}
 use Rattle.tried_orders.specs.declared.points.Source.{Source}
 use Rattle.tried_orders.specs.declared.points.Source.TheVariants.{Threads}
