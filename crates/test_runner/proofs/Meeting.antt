@@ -83,7 +83,7 @@ module _ (Tries : List Tried → Type 0) (harts : ℕ) (is_cut : Bool) (conditio
       → (told : List Extent) × (extents all ≡ extents first ++ told) × (runs ≡ 0 → told ≡ [])
       × (runs ≢ 0 → AreMetBy harts Tries TellsRuns conditions told)
   runs-told zero none some each =
-      ([], same-extents all first (none refl) ∙ sym (append-nil (extents first)), (λ is. refl), (λ no. absurd (no refl)))
+      ([], same-extents all first (none refl) ∙ sym (append-nil (extents first)), (λ is. refl), (λ some. absurd (some refl)))
   runs-told (suc n) none some each =
       let adds = some (λ e. absurd (let u = e in cc)) in
       (adds.told, adds.reached, (λ is. absurd (let u = is in cc)), (λ more. met-by Tries TellsRuns harts is_cut conditions first all adds each))
@@ -150,7 +150,7 @@ by-same options bytes one other found reach cut is = record {
   no_runs = is.no_runs;
   told = reach ∙ is.told;
   many = ap (λ (xs : List Verdict). length xs) found ∙ is.many;
-  time = (λ yes. is.time (sym cut ∙ yes));
+  time = (λ short. is.time (sym cut ∙ short));
 }
 
 all-same : (options : Options) (bytes : List ℕ) (one other : FileReport) → verdicts one ≡ verdicts other → extents one ≡ extents other

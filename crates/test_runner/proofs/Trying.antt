@@ -37,7 +37,7 @@ module _ (script : Script) (seed : ℕ) (asked : Orders) (Tells : List Tried →
       to = adds.are.to;
       are = adds.are.are;
       most = adds.are.most;
-      whole = (λ no. absurd (let t = no in cc));
+      whole = (λ all. absurd (let t = all in cc));
     };
     more = adds.more;
     added = adds.added;
@@ -56,6 +56,6 @@ pub by-time : (seconds : Option ℕ) (begun early late : Bool) → begun ≡ fal
     → late ≡ true → seconds ≢ None
 by-time seconds begun early late whole first later cut =
     elim (later cut) [
-      | inl before ↦ elim (first before) [ inl no ↦ absurd (let t = no in let u = whole in cc) | inr is ↦ is ]
+      | inl before ↦ elim (first before) [ inl short ↦ absurd (let t = short in let u = whole in cc) | inr is ↦ is ]
       | inr is ↦ is
     ]
