@@ -1,4 +1,5 @@
 pub mod Inside
 pub mod Lines
 pub mod Missing
+pub mod Misfits
 pub mod Statuses

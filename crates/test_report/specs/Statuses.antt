@@ -4,6 +4,7 @@ use Rattle.test_report.specs.declared.point.Point.{Point}
 use Rattle.test_report.specs.declared.report.FileReport.{FileReport}
 use Rattle.test_report.specs.declared.report.Mode.TheVariants.{Test}
 use Rattle.test_report.specs.declared.report.Report.{Report}
+use Rattle.test_report.specs.declared.verdict.Extent.{Extent}
 use Rattle.test_report.specs.declared.verdict.Verdict.{Verdict}
 use Rattle.test_report.specs.declared.verdict.Verdict.TheVariants.{Holds, Fails, Vacuous, NoEnd, Misfit, NotJudged}
 
@@ -36,6 +37,10 @@ EachHolds files = (k : ℕ) (file : FileReport) → slice_get files k ≡ Some f
 -- The verdicts on a file's points, in order.
 abbrev pub verdicts : FileReport → List Verdict
 verdicts file = map (λ point. point.verdict) file.points.items
+
+-- How far `test` looked for each point of a file, in order.
+abbrev pub extents : FileReport → List Extent
+extents file = map (λ point. point.reach) file.points.items
 
 -- Of some file not all was tried or seen that was asked for.
 abbrev pub SomeIsCut : List FileReport → Type 0

@@ -1,5 +1,6 @@
 //! A point, with its details.
 ghost use Rattle.std.specs.Prelude.{◌≡◌, ◌↔◌, IfOk, true};
+ghost use Rattle.test_report.specs.declared.verdict.Extent.TheVariants.{Lines};
 ghost use Rattle.test_report.specs.declared.verdict.Verdict.TheVariants.{Holds};
 
 use crate::details::{Detail, Unwritten};
@@ -29,7 +30,8 @@ pub struct Point {
 impl Point {
     /// A point about a file's lines, or about its fault, without details.
     pub fn new(alloc: Global, name: String, verdict: Verdict) -> Point
-        ensures { result.verdict ≡ verdict }
+        ensures verdict { result.verdict ≡ verdict }
+        ensures reach { result.reach ≡ Lines }
     {
         Point {
             name,
@@ -49,7 +51,8 @@ impl Point {
         verdict: Verdict,
         reach: Extent,
     ) -> Result<Point, AllocError>
-        ensures { IfOk result (λ point. point.verdict ≡ verdict) }
+        ensures verdict { IfOk result (λ point. point.verdict ≡ verdict) }
+        ensures reach { IfOk result (λ point. point.reach ≡ reach) }
     {
         let said = match condition {
             Some(_) => "",

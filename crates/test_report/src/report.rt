@@ -1,6 +1,6 @@
 //! The report about all files.
 ghost use Rattle.std.specs.Prelude.{◌≡◌, ◌↔◌, ◌∷◌, ◌++◌, [], OnOk, true, false};
-ghost use Rattle.test_report.specs.Statuses.{EachHolds, IsWhole, SomeFails, SomeIsCut, verdicts};
+ghost use Rattle.test_report.specs.Statuses.{EachHolds, IsWhole, SomeFails, SomeIsCut, extents, verdicts};
 ghost use Rattle.test_report.specs.declared.status.Status.TheVariants.{AllHold, SomeFail};
 
 use crate::counts::AllOrders;
@@ -42,6 +42,7 @@ impl FileReport {
     /// Before anything is found.
     pub fn new(alloc: Global) -> FileReport
         ensures none { verdicts result ≡ [] }
+        ensures empty { result.points.items ≡ [] }
         ensures whole { result.is_cut ≡ false }
     {
         FileReport {
@@ -57,6 +58,7 @@ impl FileReport {
     /// A point was found.
     pub fn push(&mut self, point: Point) -> Result<(), AllocError>
         ensures found { OnOk result (verdicts self.new ≡ verdicts self.old ++ point.verdict ∷ []) }
+        ensures reached { OnOk result (extents self.new ≡ extents self.old ++ point.reach ∷ []) }
         ensures cut { self.new.is_cut ≡ self.old.is_cut }
     {
         self.points.push(point)?;
@@ -66,6 +68,7 @@ impl FileReport {
     /// Something is noted behind what was found before.
     pub fn note(&mut self, note: Note) -> Result<(), AllocError>
         ensures same { verdicts self.new ≡ verdicts self.old }
+        ensures reached { extents self.new ≡ extents self.old }
         ensures cut { self.new.is_cut ≡ self.old.is_cut }
     {
         let many = self.points.len();
@@ -80,6 +83,7 @@ impl FileReport {
     /// Each of these is noted.
     pub fn note_all(&mut self, notes: Vec<Note>) -> Result<(), AllocError>
         ensures same { verdicts self.new ≡ verdicts self.old }
+        ensures reached { extents self.new ≡ extents self.old }
         ensures cut { self.new.is_cut ≡ self.old.is_cut }
     {
         for note in notes {

@@ -3,3 +3,4 @@ pub mod Meeting
 pub mod Printing
 pub mod Records
 pub mod Reports
+pub mod Trying

@@ -1,5 +1,5 @@
 -- What is found of a file's bytes, in the order of its conditions (profile).
-use Rattle.std.specs.Prelude.{◌≡◌, ◌≢◌, ◌⊎◌, ℕ, Bool, List, [], ◌∷◌, ◌++◌, map}
+use Rattle.std.specs.Prelude.{◌≡◌, ◌≢◌, ◌⊎◌, ℕ, List, [], ◌∷◌, ◌++◌, map, None, true}
 use Rattle.conditions.specs.Condition.{Condition}
 use Rattle.conditions.specs.Grammar.{ReadsConditions, condition_value}
 use Rattle.guest_script.specs.Grammar.{Reads, content, written}
@@ -7,13 +7,16 @@ use Rattle.guest_programs.specs.Programs.{IsProgram}
 use Rattle.guest_programs.specs.Steps.{task_of}
 use Rattle.outcome_statistics.specs.Records.{EachIs}
 use Rattle.script_lines.specs.declared.script.Script.{Script}
+use Rattle.test_report.specs.Statuses.{extents, verdicts}
+use Rattle.test_report.specs.declared.report.FileReport.{FileReport}
 use Rattle.test_report.specs.declared.report.Mode.{Mode}
 use Rattle.test_report.specs.declared.report.Mode.TheVariants.{Test, Explore}
+use Rattle.test_report.specs.declared.verdict.Extent.{Extent}
 use Rattle.test_report.specs.declared.verdict.Verdict.{Verdict}
 use Rattle.test_report.specs.declared.verdict.Verdict.TheVariants.{Fails}
 use Rattle.test_terms.specs.declared.options.Options.{Options}
 use Rattle.all_orders.specs.Verdicts.{AreVerdicts, widest}
-use Rattle.tried_orders.specs.Verdicts.{AddsVerdicts, AreRunsOf, AreTriedOf}
+use Rattle.tried_orders.specs.Verdicts.{AddsPoints, AreRunsOf, AreTriedOf, TellsOrders, TellsRuns}
 
 module _ (options : Options) (script : Script) (conditions : List Condition) where
   -- By all orders of a program, on its board with the widest limit, one verdict is found of each condition.
@@ -21,32 +24,43 @@ module _ (options : Options) (script : Script) (conditions : List Condition) whe
     pub program : IsProgram (content script.body)
     pub are : AreVerdicts (widest script.config) (task_of (content script.body)) options.limit.seconds conditions found
 
-  -- By the orders of a program that were tried one verdict is found of each condition, and, if runs on threads were asked for, one more by their records.
-  pub record AreTried (is_cut : Bool) (found : List Verdict) : Type 0 where
+  -- By the orders of a program that were tried one point is found of each condition, and, if runs on threads were asked
+  -- for, one more by their records. They are cut short only if there is a time limit.
+  pub record AreTried (file : FileReport) : Type 0 where
     pub program : IsProgram (content script.body)
-    pub first : List Verdict
-    pub orders : AddsVerdicts (AreTriedOf script.config (content script.body) options.seed options.orders is_cut) conditions [] first
-    pub no_runs : options.runs ≡ 0 → found ≡ first
+    pub begun : FileReport
+    pub none : begun.points.items ≡ []
+    pub first : FileReport
+    pub orders : AddsPoints (AreTriedOf script.config (content script.body) options.seed options.orders file.is_cut)
+        (TellsOrders options.seed) script.config.harts file.is_cut conditions begun first
+    pub no_runs : options.runs ≡ 0 → file.points ≡ first.points
     pub runs : options.runs ≢ 0
-        → AddsVerdicts (AreRunsOf script.config (content script.body) options.runs is_cut) conditions first found
+        → AddsPoints (AreRunsOf script.config (content script.body) options.runs file.is_cut) TellsRuns script.config.harts
+        file.is_cut conditions first file
+    pub time : file.is_cut ≡ true → options.limit.seconds ≢ None
 
-  -- What is found of a script. `explore` looks at all orders of a program, and no other script has orders. `test` looks at all orders or at some. (What it finds of schedules and traces is tested.)
-  abbrev pub IsFoundOf : Mode → Bool → List Verdict → Type 0
-  IsFoundOf Explore is_cut found = IsExplored found ⊎ ((¬ IsProgram (content script.body)) × (found ≡ Fails ∷ []))
-  IsFoundOf Test is_cut found = IsExplored found ⊎ AreTried is_cut found ⊎ (¬ IsProgram (content script.body))
+  -- What is found of a script. `explore` looks at all orders of a program, and no other script has orders. `test` looks at
+  -- all orders or at some. (What it finds of schedules and traces is tested.)
+  abbrev pub IsFoundOf : Mode → FileReport → Type 0
+  IsFoundOf Explore file = IsExplored (verdicts file) ⊎ ((¬ IsProgram (content script.body)) × (verdicts file ≡ Fails ∷ []))
+  IsFoundOf Test file = IsExplored (verdicts file) ⊎ AreTried file ⊎ (¬ IsProgram (content script.body))
 
--- What is found of bytes: they are this script and have these conditions, so much is found of these, and then something fails for each comment that looks like a condition.
-pub record IsFoundOfScript (options : Options) (bytes : List ℕ) (is_cut : Bool) (found : List Verdict) : Type 0 where
+-- What is found of bytes: they are this script and have these conditions, so much is found of these, and then something
+-- fails for each comment that looks like a condition.
+pub record IsFoundOfScript (options : Options) (bytes : List ℕ) (file : FileReport) : Type 0 where
   pub script : Script
   pub conditions : List Condition
   pub reads : Reads bytes (written script)
   pub have : ReadsConditions bytes (map condition_value conditions)
-  pub judged : List Verdict
+  pub judged : FileReport
+  pub is : IsFoundOf options script conditions options.mode judged
+  pub is_cut : file.is_cut ≡ judged.is_cut
   pub odd : List Verdict
-  pub parts : found ≡ judged ++ odd
-  pub is : IsFoundOf options script conditions options.mode is_cut judged
+  pub parts : verdicts file ≡ verdicts judged ++ odd
   pub fail : EachIs (λ verdict. verdict ≡ Fails) odd
+  pub told : List Extent
+  pub reached : extents file ≡ extents judged ++ told
 
 -- What is found of a file of these bytes: what is found of them, or that it can't be tested, which fails.
-abbrev pub IsFoundOfFile : Options → List ℕ → Bool → List Verdict → Type 0
-IsFoundOfFile options bytes is_cut found = IsFoundOfScript options bytes is_cut found ⊎ (found ≡ Fails ∷ [])
+abbrev pub IsFoundOfFile : Options → List ℕ → FileReport → Type 0
+IsFoundOfFile options bytes file = IsFoundOfScript options bytes file ⊎ (verdicts file ≡ Fails ∷ [])

@@ -7,7 +7,7 @@ use Rattle.test_report.specs.declared.report.Report.{Report}
 use Rattle.test_report.specs.declared.status.Status.{Status}
 use Rattle.test_report.specs.declared.status.Status.TheVariants.{AllHold, SomeFail}
 use Rattle.test_report.specs.Lines.{IsFileText, indented, note_sign, plan_line, version_line}
-use Rattle.test_report.specs.Statuses.{EachHolds, EachPointHolds, IsWhole, SomeFails, verdicts}
+use Rattle.test_report.specs.Statuses.{EachHolds, EachPointHolds, IsWhole, SomeFails}
 use Rattle.test_terms.specs.declared.options.Options.{Options}
 use Rattle.test_runner.specs.Findings.{IsFoundOfFile}
 use Rattle.test_runner.specs.Meeting.{AreAllMet}
@@ -38,8 +38,8 @@ pub record IsReportText (files : List FileReport) (text : List ℕ) : Type 0 whe
 pub record IsReportOf (known : Option (List ℕ)) (options : Options) (file : FileReport) : Type 0 where
   pub bytes : List ℕ
   pub are : IfSome known (λ all. bytes ≡ take most_read all)
-  pub found : IsFoundOfFile options bytes file.is_cut (verdicts file)
-  pub met : EachPointHolds file.points.items → AreAllMet options options.mode file.is_cut bytes (verdicts file)
+  pub found : IsFoundOfFile options bytes file
+  pub met : EachPointHolds file.points.items → AreAllMet options options.mode bytes file
 
 -- There is a report about each file, in order.
 pub record AreReportsOf (bytes_of : List ℕ → Option (List ℕ)) (options : Options) (names : List (List ℕ)) (files : List FileReport)

@@ -3,7 +3,8 @@ ghost use Rattle.std.specs.Prelude.{◌≡◌, ◌↔◌, ◌∷◌, ◌++◌, L
 ghost use Rattle.guest_script.specs.Grammar.{content};
 ghost use Rattle.guest_programs.specs.Programs.{IsProgram};
 ghost use Rattle.outcome_statistics.specs.Records.{EachIs};
-ghost use Rattle.test_report.specs.Statuses.{verdicts};
+ghost use Rattle.test_report.specs.Statuses.{extents, verdicts};
+ghost use Rattle.test_report.specs.declared.verdict.Extent.{Extent};
 ghost use Rattle.test_report.specs.declared.verdict.Verdict.{Verdict as Told};
 ghost use Rattle.test_report.specs.declared.verdict.Verdict.TheVariants.{Fails};
 ghost use Rattle.test_runner.specs.Findings.{IsFoundOf, IsFoundOfFile, AreTried};
@@ -51,7 +52,7 @@ fn test_text<'a, R: AllocGlobal + Clock + Eprint + Files + Sync + Threads + Wait
     record: &'a str,
     text: &'a [u8],
 ) -> Result<FileReport, Stop>
-    ensures { IfOk result (λ found. IsFoundOfFile options.now text.now found.is_cut (verdicts found)) }
+    ensures { IfOk result (IsFoundOfFile options.now text.now) }
 {
     let alloc = rt.alloc();
     let loaded = match load(alloc, text) {
@@ -81,6 +82,7 @@ fn put_unasked<R: AllocGlobal>(
 ) -> Result<(), AllocError>
     ensures odd { OnOk result ((odd : List Told) × (verdicts found.new ≡ verdicts found.old ++ odd)
         × EachIs (λ verdict. verdict ≡ Fails) odd) }
+    ensures told { OnOk result ((told : List Extent) × (extents found.new ≡ extents found.old ++ told)) }
     ensures cut { found.new.is_cut ≡ found.old.is_cut }
 {
     let alloc = trial.rt.alloc();
@@ -120,8 +122,8 @@ fn failing(alloc: Global, name: String) -> Result<FileReport, AllocError>
 fn test_script<R: AllocGlobal + Clock + Eprint + Files + Sync + Threads + Wait>(
     trial: &Trial<'_, R>,
 ) -> Result<FileReport, Stop>
-    ensures { IfOk result (λ found. IsFoundOf trial.now.options.now trial.now.script.now trial.now.case.conditions.now
-        trial.now.options.now.mode found.is_cut (verdicts found)) }
+    ensures { IfOk result (IsFoundOf trial.now.options.now trial.now.script.now trial.now.case.conditions.now
+        trial.now.options.now.mode) }
 {
     if is_program(&trial.script.body) {
         return test_program(trial);
@@ -141,8 +143,8 @@ fn test_program<R: AllocGlobal + Clock + Eprint + Files + Sync + Threads + Wait>
     trial: &Trial<'_, R>,
 ) -> Result<FileReport, Stop>
     requires { IsProgram (content trial.now.script.now.body) }
-    ensures { IfOk result (λ found. IsFoundOf trial.now.options.now trial.now.script.now trial.now.case.conditions.now
-        trial.now.options.now.mode found.is_cut (verdicts found)) }
+    ensures { IfOk result (IsFoundOf trial.now.options.now trial.now.script.now trial.now.case.conditions.now
+        trial.now.options.now.mode) }
 {
     match trial.options.mode {
         Mode::Explore => Ok(explore_program(trial)?),
@@ -158,8 +160,7 @@ fn test_some<R: AllocGlobal + Clock + Eprint + Files + Sync + Threads + Wait>(
     trial: &Trial<'_, R>,
 ) -> Result<FileReport, Stop>
     requires { IsProgram (content trial.now.script.now.body) }
-    ensures { IfOk result (λ found. AreTried trial.now.options.now trial.now.script.now trial.now.case.conditions.now
-        found.is_cut (verdicts found)) }
+    ensures { IfOk result (AreTried trial.now.options.now trial.now.script.now trial.now.case.conditions.now) }
 {
     let mut file = FileReport::new(trial.rt.alloc());
     test_orders(trial, &mut file)?;

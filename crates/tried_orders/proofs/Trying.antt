@@ -15,7 +15,7 @@ use Rattle.guest_programs.specs.Steps.{task_in, task_of}
 use Rattle.outcome_statistics.specs.declared.findings.Findings.{Findings}
 use Rattle.outcome_statistics.specs.declared.findings.Judged.{Judged}
 use Rattle.outcome_statistics.specs.Findings.{AreFound, AreOrders}
-use Rattle.outcome_statistics.specs.Records.{Tried}
+use Rattle.outcome_statistics.specs.Records.{EachIs, Tried}
 use Rattle.tried_orders.specs.Inside.Judging.{Judges}
 
 pub orders-behind : (c : Config) (content : Content) (seed first from to : ℕ) (records more : List Tried)
@@ -37,6 +37,16 @@ slice_get-either [] x zero y h = inr (refl, same_Some x y h)
 slice_get-either [] x (suc k) y h = absurd (none-some y h)
 slice_get-either (z ∷ xs) x zero y h = inl h
 slice_get-either (z ∷ xs) x (suc k) y h = elim (slice_get-either xs x k y h) [ inl a ↦ inl a | inr b ↦ inr (ap suc b.0, b.1) ]
+
+-- an empty list has nothing in any place
+pub none-at : {X : Type 0} (k : ℕ) (y : X) → slice_get [] k ≡ Some y → ⊥
+none-at zero y at = none-some y at
+none-at (suc k) y at = none-some y at
+
+-- each of one more
+pub each-one-more : {X : Type 0} (P : X → Type 0) (xs : List X) (x : X) → EachIs P xs → P x → EachIs P (xs ++ x ∷ [])
+each-one-more P [] x each last = (last, tt)
+each-one-more P (y ∷ xs) x each last = (each.0, each-one-more P xs x each.1 last)
 
 -- what a look-up gives is the member, or none
 pub got : {X : Type 0} (xs : List X) (i : ℕ) (r : Option (Bor X)) → IsItemAt xs i r → option_map (λ (x : Bor X). x.now) r ≡ slice_get xs i

@@ -1,10 +1,12 @@
 -- What is found of a program's conditions by orders that were tried, or by runs on threads (profile).
-use Rattle.std.specs.Prelude.{◌≡◌, ◌⊎◌, ℕ, ◌+◌, ◌≤◌, max, Bool, true, false, List, [], ◌++◌, length, reverse, slice_get, Option, Some, None}
+use Rattle.std.specs.Prelude.{◌≡◌, ◌≢◌, ◌⊎◌, ℕ, ◌+◌, ◌-◌, ◌^◌, ◌≤◌, min, max, Bool, true, false, List, [], ◌++◌, length, reverse, slice_get, Option, Some, None}
 use Rattle.std.specs.Global.{Vec}
 use Rattle.board_core.specs.Opening.{opening_at}
 use Rattle.board_terms.specs.declared.config.Config.{Config}
+use Rattle.conditions.specs.declared.misfits.Misfit.{Misfit as Word}
 use Rattle.conditions.specs.Condition.{Condition}
 use Rattle.conditions.specs.Ending.{Ending}
+use Rattle.conditions.specs.Ending.TheVariants as endings
 use Rattle.conditions.specs.Rule.TheVariants.{CanEnd}
 use Rattle.conditions.specs.declared.vacuity.NeedsMet.{NeedsMet}
 use Rattle.conditions.specs.Endings.{ending}
@@ -16,10 +18,15 @@ use Rattle.hart_threads.specs.Shares.{IsRun}
 use Rattle.outcome_statistics.specs.declared.ends.Ends.{Ends}
 use Rattle.outcome_statistics.specs.declared.judgement.Judgement.{Judgement}
 use Rattle.outcome_statistics.specs.declared.judgement.Judgement.TheVariants as says
-use Rattle.outcome_statistics.specs.Findings.{AreEnded, AreOrders}
-use Rattle.outcome_statistics.specs.Judgements.{IsJudged}
+use Rattle.outcome_statistics.specs.Findings.{AreEnded, AreOrders, HaveEnded}
+use Rattle.outcome_statistics.specs.Judgements.{IsJudged, asked_rule}
 use Rattle.outcome_statistics.specs.Met.{AreNeedsMet}
 use Rattle.outcome_statistics.specs.Records.{EachIs, Tried}
+use Rattle.test_report.specs.Misfits.{IsMisfitFor}
+use Rattle.test_report.specs.Statuses.{extents, verdicts}
+use Rattle.test_report.specs.declared.report.FileReport.{FileReport}
+use Rattle.test_report.specs.declared.verdict.Extent.{Extent}
+use Rattle.test_report.specs.declared.verdict.Extent.TheVariants as spans
 use Rattle.test_report.specs.declared.verdict.Unjudged.{Unjudged}
 use Rattle.test_report.specs.declared.verdict.Unjudged.TheVariants.{NoTime, NoOrder, NotAllOrders, TooMany}
 use Rattle.test_report.specs.declared.verdict.Verdict.{Verdict}
@@ -38,7 +45,8 @@ abbrev pub behind_asked : Orders → ℕ
 behind_asked (First many) = many
 behind_asked (One order) = order + 1
 
--- These are the records of a program's orders that are asked for, the last in front: of each, or of the first ones if the time was over.
+-- These are the records of a program's orders that are asked for, the last in front: of each, or of the first ones if the
+-- time was over.
 pub record AreTriedOf (c : Config) (content : Content) (seed : ℕ) (asked : Orders) (is_cut : Bool) (tried : List Tried) : Type 0 where
   pub to : ℕ
   pub are : AreOrders c content seed (first_asked asked) tried to
@@ -57,6 +65,10 @@ pub record AreRunsOf (c : Config) (content : Content) (runs : ℕ) (is_cut : Boo
   pub each : EachIs (IsRunRecord c content) tried
   pub most : length tried ≤ runs
   pub whole : is_cut ≡ false → length tried ≡ runs
+
+-- What wasn't cut short before is cut short after only if there is a time limit.
+abbrev pub IsCutByTime : (seconds : Option ℕ) → (before after : Bool) → Type 0
+IsCutByTime seconds before after = after ≡ true → (before ≡ true) ⊎ (seconds ≢ None)
 
 -- ---- what is found of it
 
@@ -82,32 +94,61 @@ abbrev pub IsOfAll : Option Condition → Type 0
 IsOfAll None = ⊥
 IsOfAll (Some condition) = (ends : Vec Ending) × (condition.rule ≡ CanEnd ends)
 
--- why these records don't judge it: there are none, or it is about all orders
-abbrev pub IsUnjudgedBy : Option Condition → List Tried → Unjudged → Type 0
-IsUnjudgedBy asked tried NoTime = tried ≡ []
-IsUnjudgedBy asked tried NoOrder = tried ≡ []
-IsUnjudgedBy asked tried NotAllOrders = IsOfAll asked
-IsUnjudgedBy asked tried (TooMany states) = ⊥
+-- why these records don't judge it: there are none, which may be for want of time only if they are cut short by it; or it
+-- is about all orders
+abbrev pub IsUnjudgedBy : (is_cut : Bool) → Option Condition → List Tried → Unjudged → Type 0
+IsUnjudgedBy is_cut asked tried NoTime = (tried ≡ []) × (is_cut ≡ true)
+IsUnjudgedBy is_cut asked tried NoOrder = tried ≡ []
+IsUnjudgedBy is_cut asked tried NotAllOrders = IsOfAll asked
+IsUnjudgedBy is_cut asked tried (TooMany states) = ⊥
 
--- What is found of a condition, or of a program without any, is what these records say. (Which words no step can have is tested.)
-abbrev pub IsFoundBy : Option Condition → List Tried → Verdict → Type 0
-IsFoundBy asked tried Holds = Say asked tried says.Holds
-IsFoundBy asked tried Fails = Say asked tried says.Fails ⊎ SayVacuous asked tried
-IsFoundBy asked tried (Vacuous missing) = SayVacuous asked tried
-IsFoundBy asked tried NoEnd = Say asked tried says.NoEnd
-IsFoundBy asked tried (Misfit misfit) = Unit {0}
-IsFoundBy asked tried (NotJudged why) = IsUnjudgedBy asked tried why
+-- The condition has no misfit on a board with so many harts.
+abbrev pub HasNoMisfit : (harts : ℕ) → Option Condition → Type 0
+HasNoMisfit harts asked = (word : Word) → ¬ IsMisfitFor harts (asked_rule asked) word
+
+-- The verdict on a condition, or on a program without any, is what these records say, or a misfit if it has one.
+abbrev pub IsFoundBy : (harts : ℕ) → (is_cut : Bool) → Option Condition → List Tried → Verdict → Type 0
+IsFoundBy harts is_cut asked tried Holds = HasNoMisfit harts asked × Say asked tried says.Holds
+IsFoundBy harts is_cut asked tried Fails = HasNoMisfit harts asked × (Say asked tried says.Fails ⊎ SayVacuous asked tried)
+IsFoundBy harts is_cut asked tried (Vacuous missing) = HasNoMisfit harts asked × SayVacuous asked tried
+IsFoundBy harts is_cut asked tried NoEnd = HasNoMisfit harts asked × Say asked tried says.NoEnd
+IsFoundBy harts is_cut asked tried (Misfit word) = IsMisfitFor harts (asked_rule asked) word
+IsFoundBy harts is_cut asked tried (NotJudged why) = HasNoMisfit harts asked × IsUnjudgedBy is_cut asked tried why
 
 -- Each of these is found of the condition in its place.
-abbrev pub EachIsFoundBy : List Condition → List Tried → List Verdict → Type 0
-EachIsFoundBy conditions tried found =
-    (place : ℕ) (verdict : Verdict) → slice_get found place ≡ Some verdict → IsFoundBy (slice_get conditions place) tried verdict
+abbrev pub EachIsFoundBy : (harts : ℕ) → (is_cut : Bool) → List Condition → List Tried → List Verdict → Type 0
+EachIsFoundBy harts is_cut conditions tried found =
+    (place : ℕ) (verdict : Verdict) → slice_get found place ≡ Some verdict
+    → IsFoundBy harts is_cut (slice_get conditions place) tried verdict
 
--- By records that were tried, one verdict more is found of each condition, or of a program without any, in the conditions' order.
-pub record AddsVerdicts (Tries : List Tried → Type 0) (conditions : List Condition) (before after : List Verdict) : Type 0 where
+-- ---- what is told of it
+
+-- how many they are (counted up to 2^64-1)
+abbrev pub counted : List Tried → ℕ
+counted tried = min (length tried) (2 ^ 64 - 1)
+
+-- This is 0, or the number of those that the limit cut off.
+abbrev pub AreCutOff : List Tried → ℕ → Type 0
+AreCutOff tried cut = (cut ≡ 0) ⊎ HaveEnded endings.HistoryFull tried cut
+
+-- The extent has the number of these orders, and their seed.
+abbrev pub TellsOrders : (seed : ℕ) → List Tried → Extent → Type 0
+TellsOrders seed tried reach = (cut : ℕ) × (reach ≡ spans.Tried (counted tried) seed cut) × AreCutOff tried cut
+
+-- The extent has the number of these runs on threads.
+abbrev pub TellsRuns : List Tried → Extent → Type 0
+TellsRuns tried reach = (cut : ℕ) × (reach ≡ spans.Runs (counted tried) cut) × AreCutOff tried cut
+
+-- By records that were tried, one point more is found of each condition, or of a program without any, in the conditions'
+-- order. The extents of these points are right for these records (`Tells`).
+pub record AddsPoints (Tries : List Tried → Type 0) (Tells : List Tried → Extent → Type 0) (harts : ℕ) (is_cut : Bool)
+    (conditions : List Condition) (before after : FileReport) : Type 0 where
   pub tried : List Tried
   pub are : Tries tried
   pub more : List Verdict
-  pub added : after ≡ before ++ more
+  pub added : verdicts after ≡ verdicts before ++ more
   pub many : length more ≡ max (length conditions) 1
-  pub each : EachIsFoundBy conditions tried more
+  pub each : EachIsFoundBy harts is_cut conditions tried more
+  pub told : List Extent
+  pub reached : extents after ≡ extents before ++ told
+  pub tells : EachIs (Tells tried) told

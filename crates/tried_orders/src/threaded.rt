@@ -5,8 +5,8 @@ ghost use Rattle.guest_script.specs.Grammar.{content};
 ghost use Rattle.guest_programs.specs.Programs.{IsProgram};
 ghost use Rattle.outcome_statistics.specs.Findings.{AreFound};
 ghost use Rattle.outcome_statistics.specs.Records.{Tried as Record};
-ghost use Rattle.test_report.specs.Statuses.{verdicts};
-ghost use Rattle.tried_orders.specs.Verdicts.{AddsVerdicts, AreRunsOf};
+ghost use Rattle.tried_orders.specs.declared.points.Source.TheVariants.{Threads as FromThreads};
+ghost use Rattle.tried_orders.specs.Verdicts.{AddsPoints, AreRunsOf, IsCutByTime, TellsRuns};
 
 use crate::pace::Pace;
 use crate::points::{Source, Tried, judged, keep_first, put_points, tells_first};
@@ -30,11 +30,13 @@ pub fn test_runs<R: AllocGlobal + Clock + Eprint + Files + Sync + Threads + Wait
     file: &mut FileReport,
 ) -> Result<(), Stop>
     requires { IsProgram (content trial.now.script.now.body) }
-    ensures none { trial.now.options.now.runs ≡ 0 → verdicts file.new ≡ verdicts file.old }
-    ensures runs { OnOk result (trial.now.options.now.runs ≢ 0
-        → AddsVerdicts (AreRunsOf trial.now.script.now.config (content trial.now.script.now.body) trial.now.options.now.runs
-        file.new.is_cut) trial.now.case.conditions.now (verdicts file.old) (verdicts file.new)) }
+    ensures none { trial.now.options.now.runs ≡ 0 → file.new.points ≡ file.old.points }
+    ensures points { OnOk result (trial.now.options.now.runs ≢ 0
+        → AddsPoints (AreRunsOf trial.now.script.now.config (content trial.now.script.now.body) trial.now.options.now.runs
+        file.new.is_cut) TellsRuns trial.now.script.now.config.harts file.new.is_cut trial.now.case.conditions.now file.old
+        file.new) }
     ensures cut { file.new.is_cut ≡ false → file.old.is_cut ≡ false }
+    ensures time { IsCutByTime trial.now.options.now.limit.seconds file.old.is_cut file.new.is_cut }
 {
     if trial.options.runs == 0 {
         return Ok(());
@@ -58,8 +60,10 @@ fn run_each<R: AllocGlobal + Clock + Eprint + Files + Sync + Threads + Wait>(
     ensures runs { OnOk result ((records : List Record)
         × AreRunsOf trial.now.script.now.config (content trial.now.script.now.body) trial.now.options.now.runs file.new.is_cut
         records × AreFound trial.now.script.now.config.harts trial.now.case.conditions.now records tried.new.found) }
-    ensures same { verdicts file.new ≡ verdicts file.old }
+    ensures same { file.new.points ≡ file.old.points }
+    ensures source { tried.new.source ≡ tried.old.source }
     ensures cut { file.new.is_cut ≡ false → file.old.is_cut ≡ false }
+    ensures time { IsCutByTime trial.now.options.now.limit.seconds file.old.is_cut file.new.is_cut }
 {
     let runs = trial.options.runs;
     for number in 0..runs {
@@ -76,7 +80,8 @@ fn run_each<R: AllocGlobal + Clock + Eprint + Files + Sync + Threads + Wait>(
 
 /// Before the first run.
 fn untried<R: AllocGlobal>(trial: &Trial<'_, R>) -> Result<Tried, AllocError>
-    ensures { IfOk result (λ tried. (harts : ℕ) → AreFound harts trial.now.case.conditions.now [] tried.found) }
+    ensures none { IfOk result (λ tried. (harts : ℕ) → AreFound harts trial.now.case.conditions.now [] tried.found) }
+    ensures source { IfOk result (λ tried. tried.source ≡ FromThreads) }
 {
     let alloc = trial.rt.alloc();
     let conditions = trial.case.conditions.len();
@@ -100,7 +105,8 @@ fn judge_run<R: AllocGlobal + Files>(
     tried: &mut Tried,
 ) -> Result<(), AllocError>
     requires many { length tried.old.found.judged.items ≡ length trial.now.case.conditions.now }
-    ensures { OnOk result ((records : List Record) (x : Record) → x.number ≡ number
+    ensures source { tried.new.source ≡ tried.old.source }
+    ensures found { OnOk result ((records : List Record) (x : Record) → x.number ≡ number
         → x.events ≡ reverse ended.now.board.past → x.end ≡ ending ended.now.end
         → AreFound ended.now.board.opening.config.harts trial.now.case.conditions.now records tried.old.found
         → AreFound ended.now.board.opening.config.harts trial.now.case.conditions.now (x ∷ records) tried.new.found) }

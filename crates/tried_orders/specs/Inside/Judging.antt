@@ -9,7 +9,10 @@ use Rattle.outcome_statistics.specs.Findings.{AreFound}
 use Rattle.outcome_statistics.specs.Judgements.{asked_rule}
 use Rattle.outcome_statistics.specs.Records.{IsSo, Tells, Tried}
 use Rattle.test_terms.specs.declared.options.Orders.{Orders}
-use Rattle.tried_orders.specs.Verdicts.{AreItsNeeds, AreTriedOf}
+use Rattle.test_report.specs.declared.verdict.Extent.{Extent}
+use Rattle.tried_orders.specs.declared.points.Source.{Source}
+use Rattle.tried_orders.specs.declared.points.Source.TheVariants.{Seed, Threads}
+use Rattle.tried_orders.specs.Verdicts.{AreItsNeeds, AreTriedOf, TellsOrders, TellsRuns}
 
 -- what is found of a condition, or of a program without any, is right for these records
 pub record Judges (asked : Option Condition) (tried : List Tried) (j : Judged) : Type 0 where
@@ -22,3 +25,8 @@ pub record AreFoundFor (c : Config) (content : Content) (conditions : List Condi
   pub tried : List Tried
   pub are : AreTriedOf c content seed asked is_cut tried
   pub right : AreFound c.harts conditions tried found
+
+-- what is told of records, by where they come from
+abbrev pub TellsOf : Source → (seed : ℕ) → List Tried → Extent → Type 0
+TellsOf Seed seed tried reach = TellsOrders seed tried reach
+TellsOf Threads seed tried reach = TellsRuns tried reach

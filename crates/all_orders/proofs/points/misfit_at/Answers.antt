@@ -3,7 +3,8 @@ use Rattle.std.specs.Prelude.{MatchOption, Option, Some, slice_get}
 use Rattle.std.proofs.lemmas.Option.{slice_get-get_or}
 use Rattle.conditions.specs.declared.misfits.Misfit.{Misfit as Word}
 use Rattle.conditions.specs.Condition.{Condition}
-use Rattle.all_orders.specs.Verdicts.{IsMisfitFor, rule_of}
+use Rattle.test_report.specs.Misfits.{IsMisfitFor}
+use Rattle.all_orders.specs.Verdicts.{rule_of}
 use Rattle.all_orders.proofs.Verdicts.{no-misfit-beyond}
 use Rattle.all_orders.proofs.points.misfit_at.Goals as goal
 

@@ -2,7 +2,6 @@ use Rattle.std.proofs.Common.{◌≡◌, ◌≤◌, ◌-◌, List, []}
 use Rattle.guest_script.specs.Grammar.{content}
 use Rattle.outcome_statistics.specs.Findings.{AreFound, AreOrders}
 use Rattle.outcome_statistics.specs.Records.{Tried}
-use Rattle.test_report.specs.Statuses.{verdicts}
 use Rattle.tried_orders.proofs.orders.try_up_to.Given as goal
 
 abbrev pub decreases-loop-from : goal.decreases-loop-from
@@ -11,7 +10,7 @@ decreases-loop-from g l = l.fn.many - l.from
 -- the orders so far were tried
 abbrev pub invariant-loop-from : goal.invariant-loop-from
 invariant-loop-from g l =
-    (l.from ≤ l.many) × (verdicts l.file ≡ verdicts l.fn.file)
+    (l.from ≤ l.many) × (l.file.points ≡ l.fn.file.points) × (l.file.is_cut ≡ l.fn.file.is_cut)
     × (AreFound l.trial.script.now.config.harts l.trial.case.conditions.now [] l.fn.found
     → (records : List Tried)
     × AreOrders l.trial.script.now.config (content l.trial.script.now.body) l.trial.options.now.seed 0 records l.from

@@ -1,4 +1,4 @@
-use Rattle.std.proofs.Common.{◌≡◌, ◌∷◌, ℕ, true, List, [], reverse, refl, sym, ap, subst, arith}
+use Rattle.std.proofs.Common.{◌≡◌, ◌∷◌, ℕ, true, List, [], reverse, refl, sym, ap, subst, ◌∙◌, arith}
 use Rattle.std.proofs.lemmas.List.{reverse-reverse}
 use Rattle.board_core.specs.Course.{Course}
 use Rattle.board_core.specs.History.{Event}
@@ -17,10 +17,10 @@ use Rattle.tried_orders.specs.Verdicts.{IsRunRecord}
 use Rattle.tried_orders.proofs.threaded.run_each.Goals as goal
 
 pub loop-number-init : goal.loop-number-init
-loop-number-init g c = (refl, refl, ([], refl, tt, c.requires.none))
+loop-number-init g c = (refl, refl, refl, ([], refl, tt, c.requires.none))
 
 pub judge_run-requires : goal.judge_run-requires
-judge_run-requires g c = record { many = c.loop-number.invariant.2.3.many }
+judge_run-requires g c = record { many = c.loop-number.invariant.3.3.many }
 
 pub loop-number-preserved : goal.loop-number-preserved
 loop-number-preserved g c =
@@ -28,7 +28,7 @@ loop-number-preserved g c =
     let body : Content = content c.args.trial.now.script.now.body in
     let conditions : List Condition = c.args.trial.now.case.conditions.now in
     let before = c.loop-number.invariant in
-    let records : List Tried = before.2.0 in
+    let records : List Tried = before.3.0 in
     let board : Course = c.in_ok-ended.ended.board in
     let past : List Event = board.past in
     let end : End = c.in_ok-ended.ended.end in
@@ -44,13 +44,14 @@ loop-number-preserved g c =
     let one : IsRunRecord numbers body x = record { end = end; ended = refl; is = ended; run = run } in
     let harts : board.opening.config.harts ≡ numbers.harts = ap (λ (o : Opening). o.config.harts) opened in (
       before.0,
-      before.1,
+      c.judge_run.ensures.source ∙ before.1,
+      before.2,
       (
         x ∷ records,
-        (let long = before.2.1 in omega arith),
-        (one, before.2.2),
+        (let long = before.3.1 in omega arith),
+        (one, before.3.2),
         subst (λ (n : ℕ). AreFound n conditions (x ∷ records) c.judge_run.new.tried.found) harts
-            (c.in_ok-judge_run.ensures records x refl refl refl
-            (subst (λ (n : ℕ). AreFound n conditions records c.loop-number.tried.found) (sym harts) before.2.3)),
+            (c.in_ok-judge_run.ensures.found records x refl refl refl
+            (subst (λ (n : ℕ). AreFound n conditions records c.loop-number.tried.found) (sym harts) before.3.3)),
       ),
     )

@@ -1,0 +1,61 @@
+-- Orders that were tried first, and runs behind them: what is cut short by then stays so.
+use Rattle.std.proofs.Common.{◌≡◌, ◌≢◌, inl, inr, ◌⊎◌, ℕ, Bool, true, false, List, refl, subst}
+use Rattle.std.specs.Prelude.{Option, None}
+use Rattle.conditions.specs.Condition.{Condition}
+use Rattle.guest_script.specs.Grammar.{content}
+use Rattle.outcome_statistics.specs.Records.{Tried}
+use Rattle.script_lines.specs.declared.script.Script.{Script}
+use Rattle.test_report.specs.declared.report.FileReport.{FileReport}
+use Rattle.test_report.specs.declared.verdict.Extent.{Extent}
+use Rattle.test_report.specs.declared.verdict.Unjudged.TheVariants.{NoTime, NoOrder, NotAllOrders, TooMany}
+use Rattle.test_report.specs.declared.verdict.Verdict.{Verdict}
+use Rattle.test_report.specs.declared.verdict.Verdict.TheVariants.{Holds, Fails, Vacuous, NoEnd, Misfit, NotJudged}
+use Rattle.test_terms.specs.declared.options.Orders.{Orders}
+use Rattle.tried_orders.specs.Verdicts.{AddsPoints, AreTriedOf, IsCutByTime, IsFoundBy}
+
+found-if-cut : (harts : ℕ) (is_cut : Bool) (asked : Option Condition) (tried : List Tried) (verdict : Verdict)
+    → IsFoundBy harts is_cut asked tried verdict → IsFoundBy harts true asked tried verdict
+found-if-cut harts is_cut asked tried Holds is = is
+found-if-cut harts is_cut asked tried Fails is = is
+found-if-cut harts is_cut asked tried (Vacuous missing) is = is
+found-if-cut harts is_cut asked tried NoEnd is = is
+found-if-cut harts is_cut asked tried (Misfit word) is = is
+found-if-cut harts is_cut asked tried (NotJudged NoTime) is = (is.0, (is.1.0, refl))
+found-if-cut harts is_cut asked tried (NotJudged NoOrder) is = is
+found-if-cut harts is_cut asked tried (NotJudged NotAllOrders) is = is
+found-if-cut harts is_cut asked tried (NotJudged (TooMany states)) is = is
+
+module _ (script : Script) (seed : ℕ) (asked : Orders) (Tells : List Tried → Extent → Type 0) (conditions : List Condition)
+    (before after : FileReport) where
+  -- what was found of orders, once runs were made too
+  pub still-tried : (early late : Bool) → (late ≡ false → early ≡ false)
+      → AddsPoints (AreTriedOf script.config (content script.body) seed asked early) Tells script.config.harts early conditions before after
+      → AddsPoints (AreTriedOf script.config (content script.body) seed asked late) Tells script.config.harts late conditions before after
+  still-tried early true stays adds = record {
+    tried = adds.tried;
+    are = record {
+      to = adds.are.to;
+      are = adds.are.are;
+      most = adds.are.most;
+      whole = (λ all. absurd (let t = all in cc));
+    };
+    more = adds.more;
+    added = adds.added;
+    many = adds.many;
+    each = (λ place verdict at. found-if-cut script.config.harts early _ adds.tried verdict (adds.each place verdict at));
+    told = adds.told;
+    reached = adds.reached;
+    tells = adds.tells;
+  }
+  still-tried early false stays adds =
+      subst (λ (is_cut : Bool). AddsPoints (AreTriedOf script.config (content script.body) seed asked is_cut) Tells script.config.harts is_cut conditions before after)
+      (stays refl) adds
+
+-- only the end of time cut it short, at the orders or at the runs
+pub by-time : (seconds : Option ℕ) (begun early late : Bool) → begun ≡ false → IsCutByTime seconds begun early → IsCutByTime seconds early late
+    → late ≡ true → seconds ≢ None
+by-time seconds begun early late whole first later cut =
+    elim (later cut) [
+      | inl before ↦ elim (first before) [ inl short ↦ absurd (let t = short in let u = whole in cc) | inr is ↦ is ]
+      | inr is ↦ is
+    ]
