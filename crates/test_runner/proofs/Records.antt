@@ -1,7 +1,6 @@
 -- Names of records: what begins with what.
-use Rattle.std.proofs.Common.{◌≡◌, ◌≢◌, inl, inr, ◌⊎◌, ℕ, zero, suc, List, [], ◌∷◌, ◌++◌, length, refl, sym, ap, ap₂, ◌∙◌, subst, append_assoc}
+use Rattle.std.proofs.Common.{◌≡◌, inl, inr, ◌⊎◌, ℕ, zero, suc, List, [], ◌∷◌, ◌++◌, length, refl, sym, ap, ap₂, ◌∙◌, append_assoc}
 use Rattle.std.specs.Prelude.{Some, slice_get}
-use Rattle.std.specs.Path.{path_file_name}
 use Rattle.std.proofs.lemmas.Option.{none-some, same_Some}
 use Rattle.test_runner.specs.Records.{AreApart, AreNoFiles, IsApartFrom, IsNoFile}
 use Rattle.test_runner.proofs.Lists.{each-more}

@@ -1,5 +1,5 @@
 -- Orders that were tried first, and runs behind them: what is cut short by then stays so.
-use Rattle.std.proofs.Common.{◌≡◌, ◌≢◌, inl, inr, ◌⊎◌, ℕ, Bool, true, false, List, refl, subst}
+use Rattle.std.proofs.Common.{◌≡◌, ◌≢◌, inl, inr, ℕ, Bool, true, false, List, refl, subst}
 use Rattle.std.specs.Prelude.{Option, None}
 use Rattle.conditions.specs.Condition.{Condition}
 use Rattle.guest_script.specs.Grammar.{content}

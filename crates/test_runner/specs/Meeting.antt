@@ -25,8 +25,7 @@ pub record IsProgramWith (bytes : List ℕ) (script : Written) (conditions : Lis
 
 -- The bytes are a program. All of its orders, on its board with the widest limit, meet each condition that the bytes have, and
 -- some order has the step of each `some`. Each condition fits the board; unless it begins with `maybe`, it says something,
--- and if it
--- is an `end`, some order ends. Without a condition some order ends, and none stuck. So many verdicts were found.
+-- and if it is an `end`, some order ends. Without a condition some order ends, and none stuck. So many verdicts were found.
 pub record AreMetByAll (bytes : List ℕ) (found : List Verdict) : Type 0 where
   pub script : Written
   pub conditions : List Condition

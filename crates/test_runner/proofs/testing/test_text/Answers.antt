@@ -1,4 +1,4 @@
-use Rattle.std.proofs.Common.{◌≡◌, List, inl, subst}
+use Rattle.std.proofs.Common.{List, inl, subst}
 use Rattle.conditions.specs.Condition.{Condition}
 use Rattle.test_runner.specs.Findings.{IsFoundOf}
 use Rattle.test_runner.proofs.testing.test_text.Goals as goal
