@@ -10,7 +10,7 @@ use std::sync::Wait;
 use std::thread::Threads;
 
 /// The turn of an actor with this many accepted operations.
-fn turn(actor: usize, ordinal: usize) -> Turn {
+pub fn turn(actor: usize, ordinal: usize) -> Turn {
     Turn { actor, ordinal }
 }
 
@@ -82,6 +82,14 @@ pub fn clock_after_rests() -> [Hold; 3] {
         hold(turn(0, 3), turn(1, 2)),
         hold(turn(0, 4), turn(2, 2)),
         hold(turn(3, 0), turn(0, 1000)),
+    ]
+}
+
+/// Hart 0 does its first `sip` after the clock's gate has closed, and hart 2 its first operation after hundreds of those.
+pub fn hart_2_after_rests() -> [Hold; 2] {
+    [
+        hold(turn(0, 3), turn(3, 0)),
+        hold(turn(2, 1), turn(0, 1000)),
     ]
 }
 

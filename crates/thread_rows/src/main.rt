@@ -61,7 +61,8 @@ fn many_ticks<R: AllocGlobal + Print + Threads + Wait + Sync>(rt: &R) -> io::Res
         lines,
         &Open,
     )?;
-    rests_before_the_clock(rt)
+    rests_before_the_clock(rt)?;
+    gate_of_one(rt)
 }
 
 /// Harts rest until a deadline, and meanwhile the clock is held back from its first tick, which wakes all of them.
@@ -76,6 +77,18 @@ fn rests_before_the_clock<R: AllocGlobal + Print + Threads + Wait + Sync>(
         (2000, scripts::SIP_LINE),
         &Holding::new(&holds, None),
     )
+}
+
+/// The gate closes for one actor, a hart or the clock, while a hart rests; long after that another actor wakes this one, which
+/// goes on.
+fn gate_of_one<R: AllocGlobal + Print + Threads + Wait + Sync>(rt: &R) -> io::Result<()> {
+    let lines = (2000, scripts::SIP_LINE);
+    let holds = held::clock_after_rests();
+    let gate = Holding::new(&holds, Some(held::turn(2, 2)));
+    show_with(rt, "gate_of_a_hart", scripts::RESTING, lines, &gate)?;
+    let holds = held::hart_2_after_rests();
+    let gate = Holding::new(&holds, Some(held::turn(3, 0)));
+    show_with(rt, "gate_of_the_clock", scripts::WAITING, lines, &gate)
 }
 
 /// Runs a script with a line added this often.

@@ -195,5 +195,20 @@ ecall 0x48534d 0 1 0x80001000 0
 ecall 0x48534d 0 2 0x80001000 0
 ";
 
+/// Hart 1 waits for an interrupt, which hart 2 sends. Hart 0 starts them; its block goes on. The clock would tick.
+pub const WAITING: &[u8] = b"board 3 3 5000 0 0x80000000 0x0
+clock
+tick 5
+at 0x80001000
+sie 0x2
+wfi
+sip
+at 0x80002000
+ecall 0x735049 0 0x2 0
+at 0x80000000
+ecall 0x48534d 0 1 0x80001000 0
+ecall 0x48534d 0 2 0x80002000 0
+";
+
 /// A hart reads sip.
 pub const SIP_LINE: &[u8] = b"sip\n";
