@@ -88,7 +88,13 @@ fn gate_of_one<R: AllocGlobal + Print + Threads + Wait + Sync>(rt: &R) -> io::Re
     show_with(rt, "gate_of_a_hart", scripts::RESTING, lines, &gate)?;
     let holds = held::hart_2_after_rests();
     let gate = Holding::new(&holds, Some(held::turn(3, 0)));
-    show_with(rt, "gate_of_the_clock", scripts::WAITING, lines, &gate)
+    show_with(
+        rt,
+        "gate_of_the_clock",
+        scripts::WOKEN_BY_AN_IPI,
+        lines,
+        &gate,
+    )
 }
 
 /// Runs a script with a line added this often.

@@ -196,7 +196,7 @@ ecall 0x48534d 0 2 0x80001000 0
 ";
 
 /// Hart 1 waits for an interrupt, which hart 2 sends. Hart 0 starts them; its block goes on. The clock would tick.
-pub const WAITING: &[u8] = b"board 3 3 5000 0 0x80000000 0x0
+pub const WOKEN_BY_AN_IPI: &[u8] = b"board 3 3 5000 0 0x80000000 0x0
 clock
 tick 5
 at 0x80001000
