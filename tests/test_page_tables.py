@@ -186,7 +186,7 @@ class PageTables(Test):
         names = Names(b"ffffffff80000000 T start\n80000100 t $x\n80000100 r table\n80000100 t sbi\nU none\n80000180 W weak\n80000200 D data\n80000300 T last\n").function
         found = [names(at) for at in (0x800000FF, 0x80000100, 0x8000017F, 0x80000180, 0x800001FF, 0x80000200, 0x80000300, 0xFFFFFFFF7FFFFFFF, 0xFFFFFFFF80000000)]
         must(f"{found}", found == [None, "sbi", "sbi", "weak", "weak", None, "last", "last", None])
-        neither = subprocess.run([os.path.join(ROOT, "tools/to-trace"), "--symbols", write(os.path.join(self.room, "none"), "x"), os.path.join(RECORDS, "kernel.record")], capture_output=True, timeout=60)
+        neither = subprocess.run([os.path.join(ROOT, "tools/to-trace"), "--report", "--symbols", write(os.path.join(self.room, "none"), "x"), os.path.join(RECORDS, "kernel.record")], capture_output=True, timeout=60)
         must(f"{neither}", neither.returncode == 1 and b"neither an ELF file nor lines of nm" in neither.stderr)
 
     def test_page_tables__the_stored_record(self):

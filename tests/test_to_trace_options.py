@@ -42,7 +42,7 @@ class ToTraceOptions(Test):
             if is_there:
                 must(f"{words}: the trace in the file is another one", read(made) == trace)
                 os.remove(made)
-        for words in ([], ["--fly", path], [path, path], ["--map", "1", path], ["--map", "x=y", path], ["--map", path], ["--ignore", "all", path], ["--ignore", "", path], ["--out"], ["--spec", "9.9", path]):
+        for words in ([], ["--fly", path], [path, path], ["--map", "1", path], ["--map", "x=y", path], ["--map", path], ["--ignore", "all", path], ["--ignore", "", path], ["--out"], ["--spec", "9.9", path], ["--symbols", path, path]):
             must(f"{words}", printed_by([TO_TRACE, *words], 2)[0] == "")
         must("no file", printed_by([TO_TRACE, os.path.join(self.room, "none")], 1)[0] == "")
         asked = write(os.path.join(self.room, "asked"), "# of all\n#! never 0 poll\nboard\n#! some 0 advance\n")

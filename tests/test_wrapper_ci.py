@@ -95,3 +95,19 @@ class Workflows(Test):
         found = self.job(work, steps["GitHub Actions"])
         must(f"{found}", found.returncode == 0 and "# 2 points, 0 failed" in found.stdout and len(called(self.room)) == count)
         must("the XML of its points", 'tests="2" failures="0" errors="0">' in read(os.path.join(work, "junit.xml")))
+
+
+class ManyRuns(Test):
+    programs = ()
+
+    def test_the_makefile_of_many_runs(self):
+        """It counts the statuses of each script, and fails where there is none."""
+        if shutil.which("make") is None:
+            raise SkipTest("make is missing")
+        put(os.path.join(self.room, "many.mk"), read(PAGE).partition("`many.mk`:\n\n```make\n")[2].partition("```")[0])
+        put(os.path.join(self.room, "sbiboard"), "#!/bin/sh\nexit 4\n")
+        os.chmod(os.path.join(self.room, "sbiboard"), 0o755)
+        put(os.path.join(self.room, "scripts/one.program"), "")
+        for folder, status, printed, said in (("scripts", 0, "1 4 one.program", ""), ("none", 2, "", "no script in none")):
+            found = subprocess.run(["make", "-f", "many.mk", f"SCRIPTS={folder}"], cwd=self.room, capture_output=True, text=True, timeout=60)
+            must(f"{folder}: {found}", found.returncode == status and found.stdout.strip() == printed and said in found.stderr)

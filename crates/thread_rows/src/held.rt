@@ -85,10 +85,12 @@ pub fn clock_after_rests() -> [Hold; 3] {
     ]
 }
 
-/// Hart 0 does its first `sip` after the clock's gate has closed, and hart 2 its first operation after hundreds of those.
-pub fn hart_2_after_rests() -> [Hold; 2] {
+/// Hart 0 does its first `sip` after the clock's gate has closed, the second after hart 1's entry, which would clear an IPI, and hart
+/// 2 its first operation after hundreds of those.
+pub fn hart_2_after_rests() -> [Hold; 3] {
     [
         hold(turn(0, 3), turn(3, 0)),
+        hold(turn(0, 4), turn(1, 1)),
         hold(turn(2, 1), turn(0, 1000)),
     ]
 }
