@@ -1,1 +1,4 @@
+pub mod Members
+pub mod Giving
+pub mod Tracking
 pub mod Lists
