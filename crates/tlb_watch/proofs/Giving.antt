@@ -1,6 +1,6 @@
 -- What logs of walks give.
-use Rattle.std.proofs.Common.{◌≡◌, ◌↔◌, ℕ, Bool, true, false, not, List, [], ◌∷◌, ◌++◌, refl, sym, subst, ap, ◌∙◌, inl, inr, cond, Option, Result, Ok, Err}
-use Rattle.std.specs.Prelude.{◌⊎◌, ◌==◌, IfOk, filter}
+use Rattle.std.proofs.Common.{◌≡◌, ℕ, Bool, true, false, not, List, [], ◌∷◌, ◌++◌, refl, subst, ◌∙◌, inl, inr, cond, Option, Result, Ok, Err}
+use Rattle.std.specs.Prelude.{◌⊎◌, ◌==◌, IfOk}
 use Rattle.std.proofs.lemmas.Bool.{eqb-true}
 use Rattle.rfence.specs.Applied.{Effect, Nothing, Drops, Empties}
 use Rattle.tlb_model.specs.declared.fence.Flush.{Flush}
@@ -10,7 +10,7 @@ use Rattle.any_tlb.specs.declared.watcher.Walking.TheVariants.{Had, Fenced}
 use Rattle.any_tlb.specs.Possible.{leaves_no_copy}
 use Rattle.any_tlb.specs.Watch.{entries_left, given_by, given_for, logged, spared}
 use Rattle.tlb_watch.specs.declared.hart_address.HartAddress.{HartAddress}
-use Rattle.tlb_watch.specs.Inside.Kept.{is_had, others}
+use Rattle.tlb_watch.specs.Inside.Kept.{others}
 use Rattle.tlb_watch.specs.Sets.{HaveSameMembers, IsIn}
 use Rattle.tlb_watch.specs.Watched.{GiveTheSame, IsLike, WatchedAddress, after_event}
 use Rattle.tlb_watch.proofs.Members.{in-cases, in-filter, in-left, in-right, out-filter, same-by, same-filtered, same-joined, same-on, same-self}
@@ -35,19 +35,14 @@ module _ (memory : ℕ → Option ℕ) (va : ℕ) where
     less [] few many within x there = within x there
     less (Had other ∷ walks) few many within x there = by_test (less walks) (other == satp) there
       where
-        abbrev given : List Entry
-        given = given_for memory other va
+        by_side : (x : Entry) → IsIn few x ⊎ IsIn (given_for memory other va) x → IsIn (many ++ (given_for memory other va)) x
+        by_side x (inl there) = in-left many (given_for memory other va) x (within x there)
+        by_side x (inr there) = in-right many (given_for memory other va) x there
 
-        by_side : (x : Entry) → IsIn few x ⊎ IsIn given x → IsIn (many ++ given) x
-        by_side x (inl there) = in-left many given x (within x there)
-        by_side x (inr there) = in-right many given x there
-
-        Again : Type 0
-        Again = (few many : List Entry) → ((x : Entry) → IsIn few x → IsIn many x) → (x : Entry) → IsIn (given_by memory va few (others satp walks)) x → IsIn (given_by memory va many walks) x
-
-        by_test : Again → (same : Bool) → IsIn (given_by memory va few (cond (not same) (Had other ∷ others satp walks) (others satp walks))) x → IsIn (given_by memory va (many ++ given) walks) x
-        by_test again true there = again few (many ++ given) (λ x there. in-left many given x (within x there)) x there
-        by_test again false there = again (few ++ given) (many ++ given) (λ x there. by_side x (in-cases few given x there)) x there
+        by_test : ((few many : List Entry) → ((x : Entry) → IsIn few x → IsIn many x) → (x : Entry) → IsIn (given_by memory va few (others satp walks)) x → IsIn (given_by memory va many walks) x)
+            → (same : Bool) → IsIn (given_by memory va few (cond (not same) (Had other ∷ others satp walks) (others satp walks))) x → IsIn (given_by memory va (many ++ (given_for memory other va)) walks) x
+        by_test again true there = again few (many ++ (given_for memory other va)) (λ x there. in-left many (given_for memory other va) x (within x there)) x there
+        by_test again false there = again (few ++ (given_for memory other va)) (many ++ (given_for memory other va)) (λ x there. by_side x (in-cases few (given_for memory other va) x there)) x there
     less (Fenced flush ∷ walks) few many within x there =
         less walks (entries_left flush few) (entries_left flush many)
         (λ x there. let kept = out-filter (left_by flush) few x there in in-filter (left_by flush) many x kept.1 (within x kept.0)) x there
@@ -58,29 +53,23 @@ module _ (memory : ℕ → Option ℕ) (va : ℕ) where
     more [] few many within x there = within x there
     more (Had other ∷ walks) few many within x there = by_test (more walks) (other == satp) refl
       where
-        given : List Entry
-        given = given_for memory other va
-
-        of-satp : other ≡ satp → (x : Entry) → IsIn many x ⊎ IsIn given x → IsIn few x ⊎ IsIn (given_for memory satp va) x
+        of-satp : other ≡ satp → (x : Entry) → IsIn many x ⊎ IsIn (given_for memory other va) x → IsIn few x ⊎ IsIn (given_for memory satp va) x
         of-satp same x (inl there) = within x there
         of-satp same x (inr there) = inr (subst (λ (n : ℕ). IsIn (given_for memory n va) x) same there)
 
-        in-few : (x : Entry) → IsIn few x ⊎ IsIn (given_for memory satp va) x → IsIn (few ++ given) x ⊎ IsIn (given_for memory satp va) x
-        in-few x (inl there) = inl (in-left few given x there)
+        in-few : (x : Entry) → IsIn few x ⊎ IsIn (given_for memory satp va) x → IsIn (few ++ (given_for memory other va)) x ⊎ IsIn (given_for memory satp va) x
+        in-few x (inl there) = inl (in-left few (given_for memory other va) x there)
         in-few x (inr there) = inr there
 
-        of-other : (x : Entry) → IsIn many x ⊎ IsIn given x → IsIn (few ++ given) x ⊎ IsIn (given_for memory satp va) x
+        of-other : (x : Entry) → IsIn many x ⊎ IsIn (given_for memory other va) x → IsIn (few ++ (given_for memory other va)) x ⊎ IsIn (given_for memory satp va) x
         of-other x (inl there) = in-few x (within x there)
-        of-other x (inr there) = inl (in-right few given x there)
+        of-other x (inr there) = inl (in-right few (given_for memory other va) x there)
 
-        Again : Type 0
-        Again = (few many : List Entry) → ((x : Entry) → IsIn many x → IsIn few x ⊎ IsIn (given_for memory satp va) x) → (x : Entry)
-            → IsIn (given_by memory va many walks) x → IsIn (given_by memory va few (others satp walks)) x ⊎ IsIn (given_for memory satp va) x
-
-        by_test : Again → (same : Bool) → (other == satp) ≡ same
+        by_test : ((few many : List Entry) → ((x : Entry) → IsIn many x → IsIn few x ⊎ IsIn (given_for memory satp va) x) → (x : Entry) → IsIn (given_by memory va many walks) x → IsIn (given_by memory va few (others satp walks)) x ⊎ IsIn (given_for memory satp va) x)
+            → (same : Bool) → (other == satp) ≡ same
             → IsIn (given_by memory va few (cond (not same) (Had other ∷ others satp walks) (others satp walks))) x ⊎ IsIn (given_for memory satp va) x
-        by_test again true is = again few (many ++ given) (λ x there. of-satp (eqb-true other satp is) x (in-cases many given x there)) x there
-        by_test again false is = again (few ++ given) (many ++ given) (λ x there. of-other x (in-cases many given x there)) x there
+        by_test again true is = again few (many ++ (given_for memory other va)) (λ x there. of-satp (eqb-true other satp is) x (in-cases many (given_for memory other va) x there)) x there
+        by_test again false is = again (few ++ (given_for memory other va)) (many ++ (given_for memory other va)) (λ x there. of-other x (in-cases many (given_for memory other va) x there)) x there
     more (Fenced flush ∷ walks) few many within x there = more walks (entries_left flush few) (entries_left flush many) kept x there
       where
         side : (x : Entry) → left_by flush x ≡ true → IsIn few x ⊎ IsIn (given_for memory satp va) x → IsIn (entries_left flush few) x ⊎ IsIn (given_for memory satp va) x
@@ -93,22 +82,19 @@ module _ (memory : ℕ → Option ℕ) (va : ℕ) where
     -- a note of the satp makes up for the older ones
     noted-now : (walks : List Walking) → HaveSameMembers (given_by memory va [] (others satp walks) ++ given_for memory satp va) (given_by memory va [] walks ++ given_for memory satp va)
     noted-now walks x = (
-      λ there. to (in-cases (given_by memory va [] (others satp walks)) now x there),
-      λ there. back (in-cases (given_by memory va [] walks) now x there),
+      λ there. to (in-cases (given_by memory va [] (others satp walks)) (given_for memory satp va) x there),
+      λ there. back (in-cases (given_by memory va [] walks) (given_for memory satp va) x there),
     )
       where
-        now : List Entry
-        now = given_for memory satp va
+        to : IsIn (given_by memory va [] (others satp walks)) x ⊎ IsIn (given_for memory satp va) x → IsIn (given_by memory va [] walks ++ (given_for memory satp va)) x
+        to (inl there) = in-left (given_by memory va [] walks) (given_for memory satp va) x (less walks [] [] (λ x there. there) x there)
+        to (inr there) = in-right (given_by memory va [] walks) (given_for memory satp va) x there
 
-        to : IsIn (given_by memory va [] (others satp walks)) x ⊎ IsIn now x → IsIn (given_by memory va [] walks ++ now) x
-        to (inl there) = in-left (given_by memory va [] walks) now x (less walks [] [] (λ x there. there) x there)
-        to (inr there) = in-right (given_by memory va [] walks) now x there
+        found : IsIn (given_by memory va [] (others satp walks)) x ⊎ IsIn (given_for memory satp va) x → IsIn (given_by memory va [] (others satp walks) ++ (given_for memory satp va)) x
+        found (inl there) = in-left (given_by memory va [] (others satp walks)) (given_for memory satp va) x there
+        found (inr there) = in-right (given_by memory va [] (others satp walks)) (given_for memory satp va) x there
 
-        found : IsIn (given_by memory va [] (others satp walks)) x ⊎ IsIn now x → IsIn (given_by memory va [] (others satp walks) ++ now) x
-        found (inl there) = in-left (given_by memory va [] (others satp walks)) now x there
-        found (inr there) = in-right (given_by memory va [] (others satp walks)) now x there
-
-        back : IsIn (given_by memory va [] walks) x ⊎ IsIn now x → IsIn (given_by memory va [] (others satp walks) ++ now) x
+        back : IsIn (given_by memory va [] walks) x ⊎ IsIn (given_for memory satp va) x → IsIn (given_by memory va [] (others satp walks) ++ (given_for memory satp va)) x
         back (inl there) = found (more walks [] [] (λ x there. inl there) x there)
         back (inr there) = found (inr there)
 

@@ -14,7 +14,6 @@ use Rattle.board_terms.specs.declared.config.Config.{Config}
 use Rattle.board_core.specs.History.{Event}
 use Rattle.board_core.specs.Memory.{memory, satp}
 use Rattle.board_core.specs.Opening.{Opening, no_caches, opening_at}
-use Rattle.any_tlb.specs.declared.watcher.Walking.{Walking}
 use Rattle.any_tlb.specs.declared.watcher.Walking.TheVariants.{Had}
 use Rattle.any_tlb.specs.Effects.{effect_at}
 use Rattle.any_tlb.specs.Steady.{IsSteady}
@@ -104,21 +103,22 @@ tracked-first c addresses present = record { are = same addresses; present = pre
 
 -- ---- what a watch says
 
-pub decided : (o : Opening) (past : List Event) (addresses : List HartAddress) (watches : List WatchedAddress) (w : WatchedAddress) (at : HartAddress) (now : ℕ → Option ℕ) (n : ℕ) (kind : Kind) (yes : Bool)
+pub decided : (o : Opening) (past : List Event) (addresses : List HartAddress) (watches : List WatchedAddress) (w : WatchedAddress) (at : HartAddress) (now : ℕ → Option ℕ) (n : ℕ) (kind : Kind) (says : Bool)
     → IsTracking o past addresses watches → Contains watches w → w.at ≡ at → now ≡ memory o past → n ≡ satp o past at.hart
     → (WatchedAgree o past at.hart at.address kind ↔ IsSteady o past at.hart at.address kind)
-    → (IsTrue yes ↔ (IsTranslated n w.at.address → All (AgreesWithTables now n w.at.address kind) w.entries))
-    → IsTrue yes ↔ IsSteady o past at.hart at.address kind
-decided o past addresses watches w at now n kind yes tracks there same ram register decides answered =
+    → (IsTrue says ↔ (IsTranslated n w.at.address → All (AgreesWithTables now n w.at.address kind) w.entries))
+    → IsTrue says ↔ IsSteady o past at.hart at.address kind
+decided o past addresses watches w at now n kind says tracks there same ram register decides answered =
     let like = All-contains (λ (w : WatchedAddress). IsLike w (watch_of o past w.at)) watches w tracks.each there in
     let members : HaveSameMembers w.entries (watched o past at.hart at.address) = subst (λ (at : HartAddress). HaveSameMembers w.entries (watched o past at.hart at.address)) same like.entries in
     let Agrees : Entry → Type 0 = AgreesWithTables (memory o past) (satp o past at.hart) at.address kind in
-    let answer : IsTrue yes ↔ (IsTranslated (satp o past at.hart) at.address → All Agrees w.entries) =
-    subst (λ (n : ℕ). IsTrue yes ↔ (IsTranslated n at.address → All (AgreesWithTables (memory o past) n at.address kind) w.entries)) register
-    (subst (λ (m : ℕ → Option ℕ). IsTrue yes ↔ (IsTranslated n at.address → All (AgreesWithTables m n at.address kind) w.entries)) ram
-    (subst (λ (at : HartAddress). IsTrue yes ↔ (IsTranslated n at.address → All (AgreesWithTables now n at.address kind) w.entries)) same answered)) in
-    (λ holds. decides.0 (λ translated. all-same Agrees (watched o past at.hart at.address) w.entries (same-turned w.entries (watched o past at.hart at.address) members) (answer.0 holds translated)),
-    λ steady. answer.1 (λ translated. all-same Agrees w.entries (watched o past at.hart at.address) members (decides.1 steady translated)))
+    let answer : IsTrue says ↔ (IsTranslated (satp o past at.hart) at.address → All Agrees w.entries) =
+    subst (λ (n : ℕ). IsTrue says ↔ (IsTranslated n at.address → All (AgreesWithTables (memory o past) n at.address kind) w.entries)) register
+    (subst (λ (m : ℕ → Option ℕ). IsTrue says ↔ (IsTranslated n at.address → All (AgreesWithTables m n at.address kind) w.entries)) ram
+    (subst (λ (at : HartAddress). IsTrue says ↔ (IsTranslated n at.address → All (AgreesWithTables now n at.address kind) w.entries)) same answered)) in (
+      λ holds. decides.0 (λ translated. all-same Agrees (watched o past at.hart at.address) w.entries (same-turned w.entries (watched o past at.hart at.address) members) (answer.0 holds translated)),
+      λ steady. answer.1 (λ translated. all-same Agrees w.entries (watched o past at.hart at.address) members (decides.1 steady translated)),
+    )
 
 pub unwatched : (o : Opening) (past : List Event) (addresses : List HartAddress) (watches : List WatchedAddress) (at : HartAddress) → IsTracking o past addresses watches
     → (Contains (addresses_of watches) at → ⊥) → Contains addresses at → ⊥

@@ -15,7 +15,7 @@ loop-entry-preserved c =
     let Goal : List Entry → Type 0 = λ l. HaveSameMembers l (old ++ take (i + 1) given) in
     elim c.if-not-has.branch [
       | then-not-has+in_ok-push w ↦
-          let items : c.if-not-has.entries.items ≡ xs ++ x ∷ [] = (λ k. (w.entries-is k).items) ∙ w.in_ok-push.ensures in
+          let items : c.if-not-has.entries.items ≡ xs ++ x ∷ [] = (λ k. (w.entries-is k).items) ∙ w.in_ok-push.ensures.items in
           subst Goal (sym items) (put-more xs old given i x c.loop-entry-test.true c.entry-item.is c.loop-entry.invariant)
       | else-not-has w ↦
           let items : c.if-not-has.entries.items ≡ xs = (λ k. (w.entries-is k).items) in
