@@ -12,7 +12,7 @@ use Rattle.any_tlb.specs.Watch.{entries_left, given_by, given_for, logged, spare
 use Rattle.tlb_watch.specs.declared.hart_address.HartAddress.{HartAddress}
 use Rattle.tlb_watch.specs.Inside.Kept.{others}
 use Rattle.tlb_watch.specs.Sets.{HaveSameMembers, IsIn}
-use Rattle.tlb_watch.specs.Watched.{GiveTheSame, IsLike, WatchedAddress, after_event}
+use Rattle.tlb_watch.specs.Watched.{GiveTheSame, WatchTheSame, WatchedAddress, after_event}
 use Rattle.tlb_watch.proofs.Members.{in-cases, in-filter, in-left, in-right, out-filter, same-by, same-filtered, same-joined, same-on, same-self}
 
 -- whether a fence leaves an entry
@@ -116,7 +116,7 @@ same-noted satp walks other same memory va =
     same-by _ _ _ _ (given-on memory va [] walks (Had satp ∷ [])) (given-on memory va [] other (Had satp ∷ []))
     (same-joined (given_by memory va [] walks) (given_by memory va [] other) (given_for memory satp va) (given_for memory satp va) (same memory va) (same-self (given_for memory satp va)))
 
-pub like-after : (done : Effect Flush) (memory : ℕ → Option ℕ) (satp : ℕ) (a b : WatchedAddress) → IsLike a b → IsLike (after_event done memory satp a) (after_event done memory satp b)
+pub like-after : (done : Effect Flush) (memory : ℕ → Option ℕ) (satp : ℕ) (a b : WatchedAddress) → WatchTheSame a b → WatchTheSame (after_event done memory satp a) (after_event done memory satp b)
 like-after done memory satp a b like =
     let walks = same-noted satp (logged done a.walks) (logged done b.walks) (same-logged done a.walks b.walks like.walks) in
     record {
@@ -128,10 +128,10 @@ like-after done memory satp a b like =
           like.at (walks memory a.at.address));
     }
 
-pub like-self : (a : WatchedAddress) → IsLike a a
+pub like-self : (a : WatchedAddress) → WatchTheSame a a
 like-self a = record { at = refl; walks = λ memory va. same-self (given_by memory va [] a.walks); entries = same-self a.entries }
 
-pub like-on : (a b c : WatchedAddress) → IsLike a b → IsLike b c → IsLike a c
+pub like-on : (a b c : WatchedAddress) → WatchTheSame a b → WatchTheSame b c → WatchTheSame a c
 like-on a b c one two = record {
   at = one.at ∙ two.at;
   walks = λ memory va. same-on _ _ _ (one.walks memory va) (two.walks memory va);

@@ -23,7 +23,7 @@ use Rattle.tlb_watch.specs.declared.hart_address.HartAddress.{HartAddress}
 use Rattle.tlb_watch.specs.Effects.{effect_on}
 use Rattle.tlb_watch.specs.Sets.{HaveSameMembers}
 use Rattle.tlb_watch.specs.Tracked.{Follows, IsTracking, addresses_of, first_watch, satp_in}
-use Rattle.tlb_watch.specs.Watched.{IsLike, WatchedAddress, after_event, watch_of}
+use Rattle.tlb_watch.specs.Watched.{WatchTheSame, WatchedAddress, after_event, watch_of}
 use Rattle.tlb_watch.proofs.Giving.{like-after, like-on, like-self}
 use Rattle.tlb_watch.proofs.Members.{all-same, same-turned}
 
@@ -31,8 +31,8 @@ use Rattle.tlb_watch.proofs.Members.{all-same, same-turned}
 
 module _ (o : Opening) (event : Event) (past : List Event) (effect : CacheEffect) (satps : List ℕ) (does : (h : ℕ) → effect_on effect h ≡ effect_at o past event h)
     (have : (h : ℕ) → h < o.config.harts → satp_in satps h ≡ satp o (event ∷ past) h) where
-  one-more : (before after : WatchedAddress) → before.at.hart < o.config.harts → IsLike before (watch_of o past before.at)
-      → Follows effect (memory o (event ∷ past)) satps before after → IsLike after (watch_of o (event ∷ past) after.at)
+  one-more : (before after : WatchedAddress) → before.at.hart < o.config.harts → WatchTheSame before (watch_of o past before.at)
+      → Follows effect (memory o (event ∷ past)) satps before after → WatchTheSame after (watch_of o (event ∷ past) after.at)
   one-more before after present like follows =
       let h = before.at.hart in
       let changed : WatchedAddress → WatchedAddress = after_event (effect_on effect h) (memory o (event ∷ past)) (satp_in satps h) in
@@ -41,19 +41,19 @@ module _ (o : Opening) (event : Event) (past : List Event) (effect : CacheEffect
       let is : changed (watch_of o past before.at) ≡ watch_of o (event ∷ past) before.at =
       ap (λ (done : Effect Flush). after_event done (memory o (event ∷ past)) (satp_in satps h) (watch_of o past before.at)) (does h)
       ∙ ap (λ (n : ℕ). after_event (effect_at o past event h) (memory o (event ∷ past)) n (watch_of o past before.at)) (have h present) in
-      let reached : IsLike after (watch_of o (event ∷ past) before.at) = subst (λ (w : WatchedAddress). IsLike after w) is on in
-      subst (λ (at : HartAddress). IsLike after (watch_of o (event ∷ past) at)) (sym follows.at) reached
+      let reached : WatchTheSame after (watch_of o (event ∷ past) before.at) = subst (λ (w : WatchedAddress). WatchTheSame after w) is on in
+      subst (λ (at : HartAddress). WatchTheSame after (watch_of o (event ∷ past) at)) (sym follows.at) reached
 
   all-more : (before after : List WatchedAddress) → All (λ (at : HartAddress). at.hart < o.config.harts) (addresses_of before)
-      → All (λ (w : WatchedAddress). IsLike w (watch_of o past w.at)) before → AllZip (Follows effect (memory o (event ∷ past)) satps) before after
-      → All (λ (w : WatchedAddress). IsLike w (watch_of o (event ∷ past) w.at)) after
-  all-more [] [] present like follows = All-nil (λ (w : WatchedAddress). IsLike w (watch_of o (event ∷ past) w.at))
+      → All (λ (w : WatchedAddress). WatchTheSame w (watch_of o past w.at)) before → AllZip (Follows effect (memory o (event ∷ past)) satps) before after
+      → All (λ (w : WatchedAddress). WatchTheSame w (watch_of o (event ∷ past) w.at)) after
+  all-more [] [] present like follows = All-nil (λ (w : WatchedAddress). WatchTheSame w (watch_of o (event ∷ past) w.at))
   all-more [] (a ∷ after) present like follows = absurd follows
   all-more (b ∷ before) [] present like follows = absurd follows
   all-more (b ∷ before) (a ∷ after) present like follows =
       let Present : HartAddress → Type 0 = λ at. at.hart < o.config.harts in
-      let Like : WatchedAddress → Type 0 = λ w. IsLike w (watch_of o past w.at) in
-      All-cons (λ (w : WatchedAddress). IsLike w (watch_of o (event ∷ past) w.at)) a after
+      let Like : WatchedAddress → Type 0 = λ w. WatchTheSame w (watch_of o past w.at) in
+      All-cons (λ (w : WatchedAddress). WatchTheSame w (watch_of o (event ∷ past) w.at)) a after
       (one-more b a (All-head Present b.at (addresses_of before) present) (All-head Like b before like) follows.0)
       (all-more before after (All-tail Present b.at (addresses_of before) present) (All-tail Like b before like) follows.1)
 
@@ -81,13 +81,13 @@ of-many zero k x = refl
 of-many (suc n) zero x = refl
 of-many (suc n) (suc k) x = of-many n k x
 
-first-like : (c : Config) (at : HartAddress) → IsLike (first_watch at) (watch_of (opening_at c) [] at)
+first-like : (c : Config) (at : HartAddress) → WatchTheSame (first_watch at) (watch_of (opening_at c) [] at)
 first-like c at =
     let bare : 0 ≡ satp (opening_at c) [] at.hart = sym (of-many c.harts at.hart 0) in
     let empty : no_caches ≡ slice_index_or (replicate c.harts no_caches) at.hart no_caches = sym (of-many c.harts at.hart no_caches) in
-    subst (λ (n : ℕ). IsLike (first_watch at) (record { at = at; walks = Had n ∷ []; entries = map (λ (x : Numbered Entry). x.item) (slice_index_or (replicate c.harts no_caches) at.hart no_caches).tlb.live ++ given_by (memory (opening_at c) []) at.address [] (Had n ∷ []) }))
+    subst (λ (n : ℕ). WatchTheSame (first_watch at) (record { at = at; walks = Had n ∷ []; entries = map (λ (x : Numbered Entry). x.item) (slice_index_or (replicate c.harts no_caches) at.hart no_caches).tlb.live ++ given_by (memory (opening_at c) []) at.address [] (Had n ∷ []) }))
     bare
-    (subst (λ (k : Caches). IsLike (first_watch at) (record { at = at; walks = Had 0 ∷ []; entries = map (λ (x : Numbered Entry). x.item) k.tlb.live ++ given_by (memory (opening_at c) []) at.address [] (Had 0 ∷ []) }))
+    (subst (λ (k : Caches). WatchTheSame (first_watch at) (record { at = at; walks = Had 0 ∷ []; entries = map (λ (x : Numbered Entry). x.item) k.tlb.live ++ given_by (memory (opening_at c) []) at.address [] (Had 0 ∷ []) }))
     empty (like-self (first_watch at)))
 
 pub tracked-first : (c : Config) (addresses : List HartAddress) → All (λ (at : HartAddress). at.hart < c.harts) addresses → IsTracking (opening_at c) [] addresses (map first_watch addresses)
@@ -97,9 +97,9 @@ tracked-first c addresses present = record { are = same addresses; present = pre
     same [] = refl
     same (at ∷ addresses) = ap (λ (rest : List HartAddress). at ∷ rest) (same addresses)
 
-    like : (addresses : List HartAddress) → All (λ (w : WatchedAddress). IsLike w (watch_of (opening_at c) [] w.at)) (map first_watch addresses)
-    like [] = All-nil (λ (w : WatchedAddress). IsLike w (watch_of (opening_at c) [] w.at))
-    like (at ∷ addresses) = All-cons (λ (w : WatchedAddress). IsLike w (watch_of (opening_at c) [] w.at)) (first_watch at) (map first_watch addresses) (first-like c at) (like addresses)
+    like : (addresses : List HartAddress) → All (λ (w : WatchedAddress). WatchTheSame w (watch_of (opening_at c) [] w.at)) (map first_watch addresses)
+    like [] = All-nil (λ (w : WatchedAddress). WatchTheSame w (watch_of (opening_at c) [] w.at))
+    like (at ∷ addresses) = All-cons (λ (w : WatchedAddress). WatchTheSame w (watch_of (opening_at c) [] w.at)) (first_watch at) (map first_watch addresses) (first-like c at) (like addresses)
 
 -- ---- what a watch says
 
@@ -109,7 +109,7 @@ pub decided : (o : Opening) (past : List Event) (addresses : List HartAddress) (
     → (IsTrue says ↔ (IsTranslated n w.at.address → All (AgreesWithTables now n w.at.address kind) w.entries))
     → IsTrue says ↔ IsSteady o past at.hart at.address kind
 decided o past addresses watches w at now n kind says tracks there same ram register decides answered =
-    let like = All-contains (λ (w : WatchedAddress). IsLike w (watch_of o past w.at)) watches w tracks.each there in
+    let like = All-contains (λ (w : WatchedAddress). WatchTheSame w (watch_of o past w.at)) watches w tracks.each there in
     let members : HaveSameMembers w.entries (watched o past at.hart at.address) = subst (λ (at : HartAddress). HaveSameMembers w.entries (watched o past at.hart at.address)) same like.entries in
     let Agrees : Entry → Type 0 = AgreesWithTables (memory o past) (satp o past at.hart) at.address kind in
     let answer : IsTrue says ↔ (IsTranslated (satp o past at.hart) at.address → All Agrees w.entries) =

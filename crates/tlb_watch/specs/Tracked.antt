@@ -7,7 +7,7 @@ use Rattle.any_tlb.specs.declared.watcher.Walking.TheVariants.{Had}
 use Rattle.tlb_watch.specs.declared.effect.CacheEffect.{CacheEffect}
 use Rattle.tlb_watch.specs.declared.hart_address.HartAddress.{HartAddress}
 use Rattle.tlb_watch.specs.Effects.{effect_on}
-use Rattle.tlb_watch.specs.Watched.{IsLike, WatchedAddress, after_event, watch_of}
+use Rattle.tlb_watch.specs.Watched.{WatchTheSame, WatchedAddress, after_event, watch_of}
 
 -- the addresses of what is watched
 abbrev pub addresses_of : List WatchedAddress → List HartAddress
@@ -18,7 +18,7 @@ addresses_of watches = map (λ (w : WatchedAddress). w.at) watches
 pub record IsTracking (o : Opening) (past : List Event) (addresses : List HartAddress) (watches : List WatchedAddress) : Type 0 where
   pub are : addresses_of watches ≡ addresses
   pub present : All (λ (at : HartAddress). at.hart < o.config.harts) addresses
-  pub each : All (λ (w : WatchedAddress). IsLike w (watch_of o past w.at)) watches
+  pub each : All (λ (w : WatchedAddress). WatchTheSame w (watch_of o past w.at)) watches
 
 -- satp of hart h, among those of all harts
 abbrev pub satp_in : List ℕ → (h : ℕ) → ℕ
@@ -28,7 +28,7 @@ satp_in satps h = slice_index_or satps h 0
 -- what was watched, and changed by the event.
 abbrev pub Follows : CacheEffect → (memory : ℕ → Option ℕ) → (satps : List ℕ) → (before after : WatchedAddress) → Type 0
 Follows effect memory satps before after =
-    IsLike after (after_event (effect_on effect before.at.hart) memory (satp_in satps before.at.hart) before)
+    WatchTheSame after (after_event (effect_on effect before.at.hart) memory (satp_in satps before.at.hart) before)
 
 -- what is watched of an address at a board's first opening: the hart has satp 0, and nothing lives in its TLB
 abbrev pub first_watch : HartAddress → WatchedAddress

@@ -44,7 +44,7 @@ GiveTheSame walks others =
 
 -- What is watched is the same: of the same address, by walks that give the same, with the same entries. Lists that
 -- keep each entry and each satp once are so like those that `watched` has, which grow with each event.
-pub record IsLike (a b : WatchedAddress) : Type 0 where
+pub record WatchTheSame (a b : WatchedAddress) : Type 0 where
   pub at : a.at ≡ b.at
   pub walks : GiveTheSame a.walks b.walks
   pub entries : HaveSameMembers a.entries b.entries

@@ -7,7 +7,7 @@ ghost use Rattle.any_tlb.specs.declared.watcher.Walking.TheVariants.{Had};
 ghost use Rattle.any_tlb.specs.Watch.{AgreesWithTables, logged, spared};
 ghost use Rattle.tlb_watch.specs.Effects.{effect_on};
 ghost use Rattle.tlb_watch.specs.Tracked.{first_watch};
-ghost use Rattle.tlb_watch.specs.Watched.{IsLike, after_event, looked};
+ghost use Rattle.tlb_watch.specs.Watched.{WatchTheSame, after_event, looked};
 
 use crate::effect::CacheEffect;
 use crate::hart_address::HartAddress;
@@ -98,7 +98,7 @@ impl AddressWatch {
         ram: &Ram,
         satp: Satp,
     ) -> Result<(), AllocError>
-        ensures after { IfOk result (λ _. IsLike self.new
+        ensures after { IfOk result (λ _. WatchTheSame self.new
             (after_event (effect_on effect self.old.at.hart) (word_in ram.now) satp self.old)) }
     {
         self.apply(effect)?;

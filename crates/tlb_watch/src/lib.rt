@@ -7,6 +7,7 @@ mod hart_address;
 mod kept;
 mod laws;
 mod ready;
+mod stale;
 mod tracker;
 
 pub use address::AddressWatch;
@@ -14,4 +15,5 @@ pub use effect::CacheEffect;
 pub use hart_address::HartAddress;
 pub use laws::{first_watches_are_watches, trackers_follow_histories, watches_follow_histories};
 pub use ready::Ready;
+pub use stale::is_stale;
 pub use tracker::Tracker;

@@ -3,7 +3,7 @@ ghost use Rattle.std.specs.Prelude.{◌≡◌, ◌<◌, ◌↔◌, IfOk, IsTrue,
 ghost use Rattle.std.specs.List.{All, AllZip, Contains};
 ghost use Rattle.sv39.specs.Memory.{word_in};
 ghost use Rattle.board_core.specs.History.{Event};
-ghost use Rattle.board_core.specs.Memory as memories;
+ghost use Rattle.board_core.specs.Memory.{memory, satp};
 ghost use Rattle.board_core.specs.Opening.{Opening};
 ghost use Rattle.any_tlb.specs.Steady.{IsSteady};
 ghost use Rattle.tlb_watch.specs.declared.hart_address.HartAddress.{HartAddress as Place};
@@ -74,16 +74,16 @@ impl Tracker {
         Ok(Tracker { watches: after })
     }
 
-    /// Whether an access of this kind to the address, by its hart, is steady now, with the board's RAM and the hart's satp: each entry
-    /// that its TLB may hold for the address gives the access what the page tables give. None: the address isn't watched.
-    pub fn is_steady(&self, at: HartAddress, ram: &Ram, satp: Satp, kind: Kind) -> Option<bool>
+    /// Whether an access of this kind to the address, by its hart, is steady now, with the board's RAM and the hart's satp: each
+    /// entry that its TLB may hold for the address gives the access what the page tables give. None: the address isn't watched.
+    pub fn is_steady(&self, at: HartAddress, ram: &Ram, register: Satp, kind: Kind) -> Option<bool>
         ensures { (o : Opening) (past : List Event) (addresses : List Place) → IsTracking o past addresses self.now
-            → word_in ram.now ≡ memories.memory o past → satp ≡ memories.satp o past at.hart
+            → word_in ram.now ≡ memory o past → register ≡ satp o past at.hart
             → MatchOption result (¬ Contains addresses at) (λ steady. IsTrue steady ↔ IsSteady o past at.hart at.address kind) }
     {
         watched_decide();
         match watch_at(&self.watches, at) {
-            Some(watch) => Some(watch.is_steady(ram, satp, kind)),
+            Some(watch) => Some(watch.is_steady(ram, register, kind)),
             None => None,
         }
     }

@@ -7,7 +7,7 @@ use Rattle.sv39.specs.Memory.{word_in}
 use Rattle.tlb_watch.specs.declared.hart_address.HartAddress.{HartAddress}
 use Rattle.tlb_watch.specs.Effects.{effect_on}
 use Rattle.tlb_watch.specs.Tracked.{Follows, satp_in}
-use Rattle.tlb_watch.specs.Watched.{IsLike, WatchedAddress, after_event}
+use Rattle.tlb_watch.specs.Watched.{WatchTheSame, WatchedAddress, after_event}
 use Rattle.tlb_watch.proofs.tracker.Tracker.happened.Goals as goal
 
 pub loop-watch-preserved : goal.loop-watch-preserved
@@ -25,7 +25,7 @@ loop-watch-preserved c =
     let inside : c.at.result.hart < length satps = subst (λ (a : HartAddress). a.hart < length satps) (sym c.at.ensures) (All-head Present w rest present) in
     let value : c.index-satps-at.result ≡ satp_in satps w.at.hart =
     c.index-satps-at.is ∙ get_or_default satps c.at.result.hart c.index-satps-at.result 0 inside ∙ ap (λ (a : HartAddress). satp_in satps a.hart) c.at.ensures in
-    let follows : Followed w after = subst (λ (n : ℕ). IsLike after (after_event (effect_on c.args.effect w.at.hart) memory n w)) value c.in_ok-happened.ensures.after in
+    let follows : Followed w after = subst (λ (n : ℕ). WatchTheSame after (after_event (effect_on c.args.effect w.at.hart) memory n w)) value c.in_ok-happened.ensures.after in
     let zipped : AllZip Followed (at.yielded ++ w ∷ []) (at.after.items ++ after ∷ []) = AllZip-push Followed at.yielded at.after.items w after at.invariant.2 follows in (
       append_assoc at.yielded (w ∷ []) rest ∙ rw (← steps) at.invariant.0,
       All-tail Present w rest present,
