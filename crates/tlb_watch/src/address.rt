@@ -85,8 +85,8 @@ impl AddressWatch {
         self.at
     }
 
-    /// An event with this effect happened. The RAM and the hart's satp are those after it. What is watched is kept as sets: each entry
-    /// and each satp once.
+    /// An event with this effect happened. The RAM and the hart's satp are those after it. What is watched is kept as sets: each
+    /// entry and each satp once.
     ///
     /// # Errors
     ///
