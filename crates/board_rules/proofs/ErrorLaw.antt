@@ -30,7 +30,7 @@ use Rattle.board_terms.specs.declared.op.Actor.{Actor}
 use Rattle.board_terms.specs.declared.op.Actor.TheVariants.{Hart, Clock}
 use Rattle.board_rules.specs.History.{Event}
 use Rattle.board_terms.specs.declared.op.Op.{Op}
-use Rattle.board_terms.specs.declared.op.Op.TheVariants.{Ecall, Load, Store, Fetch, WriteSatp, WriteSie, WriteSstatusSie, ReadSip, ClearSsip, Wfi, Sfence, FenceI, Poll, Serve, Advance, Tick}
+use Rattle.board_terms.specs.declared.op.Op.TheVariants.{Ecall, Load, Store, Fetch, Amo, WriteSatp, WriteSie, WriteSstatusSie, ReadSip, ClearSsip, Wfi, Sfence, FenceI, Poll, Serve, Advance, Tick}
 use Rattle.board_terms.specs.declared.reply.Refusal.{Refusal}
 use Rattle.board_terms.specs.declared.reply.Reply.{Reply}
 use Rattle.board_terms.specs.declared.reply.Reply.TheVariants.{Ret, Done}
@@ -146,6 +146,12 @@ module _ (o : Opening) (past : List Event) where
   accessed_well (accesses.Store value) (Err cause) = refl
   accessed_well accesses.Fetch (Ok word) = refl
   accessed_well accesses.Fetch (Err cause) = refl
+  accessed_well (accesses.Amo at amo) (Ok old) = by_reads (reads amo)
+    where
+      by_reads : (is : Bool) → is_error (if is then Value old else Done) ≡ false
+      by_reads true = refl
+      by_reads false = refl
+  accessed_well (accesses.Amo at amo) (Err cause) = refl
 
   -- a tick that isn't refused is done
   ticked_well : (refusal : Option Refusal) (r : Reply) → refused_or refusal Done ≡ Ok r → r ≡ Done
@@ -158,6 +164,7 @@ module _ (o : Opening) (past : List Event) where
   failed Clock (Load va) r used e error = absurd (clock_ticks o past (Load va) r refl e)
   failed Clock (Store va value) r used e error = absurd (clock_ticks o past (Store va value) r refl e)
   failed Clock (Fetch va) r used e error = absurd (clock_ticks o past (Fetch va) r refl e)
+  failed Clock (Amo at amo) r used e error = absurd (clock_ticks o past (Amo at amo) r refl e)
   failed Clock (WriteSatp value) r used e error = absurd (clock_ticks o past (WriteSatp value) r refl e)
   failed Clock (WriteSie value) r used e error = absurd (clock_ticks o past (WriteSie value) r refl e)
   failed Clock (WriteSstatusSie value) r used e error = absurd (clock_ticks o past (WriteSstatusSie value) r refl e)
@@ -180,6 +187,8 @@ module _ (o : Opening) (past : List Event) where
           (let e = sym (accessed_well (accesses.Store value) (whole.answer (memory o past) (satp o past x) (hit o past x) (cached o past x) va (accesses.Store value))) ∙ ap is_error is ∙ error in cc)
       by_op (Fetch va) is = absurd
           (let e = sym (accessed_well accesses.Fetch (whole.answer (memory o past) (satp o past x) (hit o past x) (cached o past x) va accesses.Fetch)) ∙ ap is_error is ∙ error in cc)
+      by_op (Amo at amo) is = absurd
+          (let e = sym (accessed_well (accesses.Amo at amo) (whole.answer (memory o past) (satp o past x) (hit o past x) (cached o past x) (word_at (size amo) at) (accesses.Amo at amo))) ∙ ap is_error is ∙ error in cc)
       by_op (WriteSatp value) is = absurd (let e = rw (← is) at error in cc)
       by_op (WriteSie value) is = absurd (let e = rw (← is) at error in cc)
       by_op (WriteSstatusSie value) is = absurd (let e = rw (← is) at error in cc)

@@ -24,6 +24,7 @@ module _ (head : Head) (used : Option Entry) (first opaque : ℕ) where
   head_again (ops.Load va) = refl
   head_again (ops.Store va value) = refl
   head_again (ops.Fetch va) = refl
+  head_again (ops.Amo at amo) = refl
   head_again (ops.WriteSatp value) = refl
   head_again (ops.WriteSie value) = refl
   head_again (ops.WriteSstatusSie value) = refl
@@ -42,6 +43,7 @@ module _ (head : Head) (used : Option Entry) (first opaque : ℕ) where
   op_again (ops.Load va) = refl
   op_again (ops.Store va value) = refl
   op_again (ops.Fetch va) = refl
+  op_again (ops.Amo at amo) = refl
   op_again (ops.WriteSatp value) = refl
   op_again (ops.WriteSie value) = refl
   op_again (ops.WriteSstatusSie value) = refl
@@ -60,6 +62,7 @@ module _ (head : Head) (used : Option Entry) (first opaque : ℕ) where
   used_again (ops.Load va) = refl
   used_again (ops.Store va value) = refl
   used_again (ops.Fetch va) = refl
+  used_again (ops.Amo at amo) = refl
   used_again (ops.WriteSatp value) = refl
   used_again (ops.WriteSie value) = refl
   used_again (ops.WriteSstatusSie value) = refl
@@ -79,6 +82,7 @@ module _ (head : Head) (used : Option Entry) (first opaque : ℕ) where
   entry_again (ops.Load va) = refl
   entry_again (ops.Store va value) = refl
   entry_again (ops.Fetch va) = refl
+  entry_again (ops.Amo at amo) = refl
   entry_again (ops.WriteSatp value) = refl
   entry_again (ops.WriteSie value) = refl
   entry_again (ops.WriteSstatusSie value) = refl
@@ -97,6 +101,7 @@ module _ (head : Head) (used : Option Entry) (first opaque : ℕ) where
   first_again (ops.Load va) fits = refl
   first_again (ops.Store va value) fits = sym fits
   first_again (ops.Fetch va) fits = refl
+  first_again (ops.Amo at amo) fits = refl
   first_again (ops.WriteSatp value) fits = sym fits
   first_again (ops.WriteSie value) fits = sym fits
   first_again (ops.WriteSstatusSie value) fits = sym fits

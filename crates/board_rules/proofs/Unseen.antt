@@ -33,7 +33,7 @@ use Rattle.board_rules.specs.Cuts.{IsHeld, IsUnseen, opening_of}
 use Rattle.board_terms.specs.declared.op.Actor.{Actor}
 use Rattle.board_terms.specs.declared.op.Actor.TheVariants.{Hart as OfHart, Clock}
 use Rattle.board_terms.specs.declared.op.Op.{Op}
-use Rattle.board_terms.specs.declared.op.Op.TheVariants.{Ecall, Load, Store, Fetch, ReadSip, Advance}
+use Rattle.board_terms.specs.declared.op.Op.TheVariants.{Ecall, Load, Store, Fetch, Amo, ReadSip, Advance}
 use Rattle.board_terms.specs.declared.reply.Refusal.{Refusal}
 use Rattle.board_terms.specs.declared.reply.Refusal.TheVariants.{Off, WrongPhase}
 use Rattle.board_terms.specs.declared.reply.Reply.{Reply}
@@ -157,6 +157,7 @@ module _ (o : Opening) (past : List Event) (held : IsHeld o past) where
   reply-cut h inside (Load va) = access_reply-cut h inside va accesses.Load
   reply-cut h inside (Store va value) = access_reply-cut h inside va (accesses.Store value)
   reply-cut h inside (Fetch va) = access_reply-cut h inside va accesses.Fetch
+  reply-cut h inside (Amo at amo) = access_reply-cut h inside (word_at (size amo) at) (accesses.Amo at amo)
   reply-cut h inside ReadSip = λ i. Value (interrupt_bits (ssip-cut h inside i) (stip-cut h inside i))
   reply-cut h inside Advance = advance_reply-cut h inside
   reply-cut h inside op = refl

@@ -94,6 +94,7 @@ pub fn access_of(op: Op) -> Option<(u64, Access)>
         Op::Load(va) => Some((va, Access::Load)),
         Op::Store(va, value) => Some((va, Access::Store(value))),
         Op::Fetch(va) => Some((va, Access::Fetch)),
+        Op::Amo(at, amo) => Some((amo.word_at(at), Access::Amo(at, amo))),
         _ => None,
     }
 }

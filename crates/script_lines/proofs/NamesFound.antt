@@ -5,6 +5,7 @@ use Rattle.std.specs.Str.{bytes_eq}
 use Rattle.std.proofs.lemmas.Bool.{cases_Bool}
 use Rattle.std.proofs.lemmas.Option.{same_Some}
 use Rattle.std.proofs.lemmas.Slice.Eq.{bytes_eq-Decides}
+use Rattle.amo.specs.declared.function.AmoFunction.TheVariants as functions
 use Rattle.script_lines.specs.declared.op_name.OpName.{OpName}
 use Rattle.script_lines.specs.declared.op_name.OpName.TheVariants as ops
 use Rattle.script_lines.specs.declared.said_name.SaidName.{SaidName}
@@ -45,6 +46,28 @@ op_found ops.Clearssip = record { found = refl; guests = refl }
 op_found ops.Sfence = record { found = refl; guests = refl }
 op_found ops.Fencei = record { found = refl; guests = refl }
 op_found ops.Wfi = record { found = refl; guests = refl }
+op_found (ops.Amo functions.Swap) = record { found = refl; guests = refl }
+op_found (ops.Amo functions.Add) = record { found = refl; guests = refl }
+op_found (ops.Amo functions.And) = record { found = refl; guests = refl }
+op_found (ops.Amo functions.Or) = record { found = refl; guests = refl }
+op_found (ops.Amo functions.Xor) = record { found = refl; guests = refl }
+op_found (ops.Amo functions.Min) = record { found = refl; guests = refl }
+op_found (ops.Amo functions.Max) = record { found = refl; guests = refl }
+op_found (ops.Amo functions.Minu) = record { found = refl; guests = refl }
+op_found (ops.Amo functions.Maxu) = record { found = refl; guests = refl }
+op_found (ops.AmoHalf functions.Swap) = record { found = refl; guests = refl }
+op_found (ops.AmoHalf functions.Add) = record { found = refl; guests = refl }
+op_found (ops.AmoHalf functions.And) = record { found = refl; guests = refl }
+op_found (ops.AmoHalf functions.Or) = record { found = refl; guests = refl }
+op_found (ops.AmoHalf functions.Xor) = record { found = refl; guests = refl }
+op_found (ops.AmoHalf functions.Min) = record { found = refl; guests = refl }
+op_found (ops.AmoHalf functions.Max) = record { found = refl; guests = refl }
+op_found (ops.AmoHalf functions.Minu) = record { found = refl; guests = refl }
+op_found (ops.AmoHalf functions.Maxu) = record { found = refl; guests = refl }
+op_found ops.Amocas = record { found = refl; guests = refl }
+op_found ops.Store1 = record { found = refl; guests = refl }
+op_found ops.Store2 = record { found = refl; guests = refl }
+op_found ops.Store4 = record { found = refl; guests = refl }
 op_found ops.Poll = record { found = refl; guests = refl }
 op_found ops.Serve = record { found = refl; guests = refl }
 op_found ops.Advance = record { found = refl; guests = refl }

@@ -4,11 +4,15 @@ use Rattle.std.specs.Prelude.{ℕ, ◌-◌, ◌^◌, Bool, true, false, ◌==◌
 use Rattle.std.specs.Int.{w64, cast_signed}
 use Rattle.std.specs.List.{find}
 use Rattle.std.specs.Str.{bytes_eq}
+use Rattle.amo.specs.declared.amo.Amo.{Amo as AnAmo}
+use Rattle.amo.specs.declared.amo.Amo.TheVariants as amos
+use Rattle.amo.specs.declared.function.AmoFunction.{AmoFunction}
+use Rattle.amo.specs.declared.function.AmoFunction.TheVariants as functions
 use Rattle.sbi_abi.specs.declared.call.Regs.{Regs}
 use Rattle.board_terms.specs.declared.op.Op.{Op}
 use Rattle.board_terms.specs.declared.op.Op.TheVariants as ops
 use Rattle.script_lines.specs.declared.op_name.OpName.{OpName}
-use Rattle.script_lines.specs.declared.op_name.OpName.TheVariants.{Ecall, Load, Store, Fetch, Satp, Sie, Sstatus, Sip, Clearssip, Sfence, Fencei, Wfi, Poll, Serve, Advance, Tick}
+use Rattle.script_lines.specs.declared.op_name.OpName.TheVariants.{Ecall, Load, Store, Fetch, Satp, Sie, Sstatus, Sip, Clearssip, Sfence, Fencei, Wfi, Amo, AmoHalf, Amocas, Store1, Store2, Store4, Poll, Serve, Advance, Tick}
 use Rattle.script_lines.specs.declared.places.Places.{Places}
 use Rattle.script_lines.specs.declared.places.TheConstants.{LAST_HART}
 use Rattle.script_lines.specs.declared.said.Said.{Said}
@@ -63,6 +67,28 @@ guest_ops =
     ∷ Sfence
     ∷ Fencei
     ∷ Wfi
+    ∷ Amo functions.Swap
+    ∷ Amo functions.Add
+    ∷ Amo functions.And
+    ∷ Amo functions.Or
+    ∷ Amo functions.Xor
+    ∷ Amo functions.Min
+    ∷ Amo functions.Max
+    ∷ Amo functions.Minu
+    ∷ Amo functions.Maxu
+    ∷ AmoHalf functions.Swap
+    ∷ AmoHalf functions.Add
+    ∷ AmoHalf functions.And
+    ∷ AmoHalf functions.Or
+    ∷ AmoHalf functions.Xor
+    ∷ AmoHalf functions.Min
+    ∷ AmoHalf functions.Max
+    ∷ AmoHalf functions.Minu
+    ∷ AmoHalf functions.Maxu
+    ∷ Amocas
+    ∷ Store1
+    ∷ Store2
+    ∷ Store4
     ∷ []
 
 abbrev pub firmware_ops : List OpName
@@ -71,6 +97,30 @@ firmware_ops = Poll ∷ Serve ∷ Advance ∷ Tick ∷ []
 -- all of them
 abbrev pub op_names : List OpName
 op_names = guest_ops ++ firmware_ops
+
+-- the word that names an AMO on 8 bytes
+abbrev pub amo_word : AmoFunction → List ℕ
+amo_word functions.Swap = codes "amoswap"
+amo_word functions.Add = codes "amoadd"
+amo_word functions.And = codes "amoand"
+amo_word functions.Or = codes "amoor"
+amo_word functions.Xor = codes "amoxor"
+amo_word functions.Min = codes "amomin"
+amo_word functions.Max = codes "amomax"
+amo_word functions.Minu = codes "amominu"
+amo_word functions.Maxu = codes "amomaxu"
+
+-- the word that names an AMO on 4 bytes
+abbrev pub amo_half_word : AmoFunction → List ℕ
+amo_half_word functions.Swap = codes "amoswap.w"
+amo_half_word functions.Add = codes "amoadd.w"
+amo_half_word functions.And = codes "amoand.w"
+amo_half_word functions.Or = codes "amoor.w"
+amo_half_word functions.Xor = codes "amoxor.w"
+amo_half_word functions.Min = codes "amomin.w"
+amo_half_word functions.Max = codes "amomax.w"
+amo_half_word functions.Minu = codes "amominu.w"
+amo_half_word functions.Maxu = codes "amomaxu.w"
 
 -- the word that names an operation
 abbrev pub op_word : OpName → List ℕ
@@ -86,6 +136,12 @@ op_word Clearssip = codes "clearssip"
 op_word Sfence = codes "sfence"
 op_word Fencei = codes "fencei"
 op_word Wfi = codes "wfi"
+op_word (Amo function) = amo_word function
+op_word (AmoHalf function) = amo_half_word function
+op_word Amocas = codes "amocas"
+op_word Store1 = codes "store1"
+op_word Store2 = codes "store2"
+op_word Store4 = codes "store4"
 op_word Poll = codes "poll"
 op_word Serve = codes "serve"
 op_word Advance = codes "advance"
@@ -105,6 +161,12 @@ op_places Clearssip = any_numbers 0 0
 op_places Sfence = record { least = 2; most = 2; limit = last_number; may_be_absent = true }
 op_places Fencei = any_numbers 0 0
 op_places Wfi = any_numbers 0 0
+op_places (Amo function) = any_numbers 2 2
+op_places (AmoHalf function) = any_numbers 2 2
+op_places Amocas = any_numbers 3 3
+op_places Store1 = any_numbers 2 2
+op_places Store2 = any_numbers 2 2
+op_places Store4 = any_numbers 2 2
 op_places Poll = any_numbers 0 0
 op_places Serve = any_numbers 0 0
 op_places Advance = any_numbers 0 0
@@ -140,10 +202,25 @@ op_from Clearssip ns = ops.ClearSsip
 op_from Sfence ns = ops.Sfence (argument_at ns 0) (argument_at ns 1)
 op_from Fencei ns = ops.FenceI
 op_from Wfi ns = ops.Wfi
+op_from (Amo function) ns = ops.Amo (number_at ns 0) (amos.Double function (number_at ns 1))
+op_from (AmoHalf function) ns = ops.Amo (number_at ns 0) (amos.Half function (number_at ns 1))
+op_from Amocas ns = ops.Amo (number_at ns 0) (amos.Cas (number_at ns 1) (number_at ns 2))
+op_from Store1 ns = ops.Amo (number_at ns 0) (amos.Store1 (number_at ns 1))
+op_from Store2 ns = ops.Amo (number_at ns 0) (amos.Store2 (number_at ns 1))
+op_from Store4 ns = ops.Amo (number_at ns 0) (amos.Store4 (number_at ns 1))
 op_from Poll ns = ops.Poll
 op_from Serve ns = ops.Serve
 op_from Advance ns = ops.Advance
 op_from Tick ns = ops.Tick (number_at ns 0)
+
+-- the name of an operation on the word around its address
+abbrev pub amo_name : AnAmo → OpName
+amo_name (amos.Double function operand) = Amo function
+amo_name (amos.Half function operand) = AmoHalf function
+amo_name (amos.Cas expected value) = Amocas
+amo_name (amos.Store1 value) = Store1
+amo_name (amos.Store2 value) = Store2
+amo_name (amos.Store4 value) = Store4
 
 -- the name of an operation
 abbrev pub name_of : Op → OpName
@@ -159,6 +236,7 @@ name_of ops.ClearSsip = Clearssip
 name_of (ops.Sfence va asid) = Sfence
 name_of ops.FenceI = Fencei
 name_of ops.Wfi = Wfi
+name_of (ops.Amo at amo) = amo_name amo
 name_of ops.Poll = Poll
 name_of ops.Serve = Serve
 name_of ops.Advance = Advance

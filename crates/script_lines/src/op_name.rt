@@ -1,11 +1,12 @@
 //! Operations by their names: the word of each, the numbers that can follow it, and whether a guest can do it.
 ghost use Rattle.std.specs.Prelude.{◌≡◌, ◌≤◌, MatchOption, None, length};
-ghost use Rattle.script_lines.specs.Names.{is_guests, name_of, op_from, op_named, op_places, op_word, regs_of};
+ghost use Rattle.script_lines.specs.Names.{amo_half_word, amo_name, amo_word, is_guests, name_of, op_from, op_named, op_places, op_word, regs_of};
 ghost use Rattle.script_lines.specs.Packing.{named_shape};
 
 use crate::op_shape::{OP_NUMBERS, OpShape};
 use crate::places::{Places, any_numbers, argument_at, number_at};
 use crate::words;
+use amo::{Amo, AmoFunction};
 use board_terms::Op;
 use sbi_abi::Regs;
 
@@ -36,6 +37,18 @@ pub enum OpName {
     Fencei,
     /// `wfi`
     Wfi,
+    /// An AMO on 8 bytes: `amoswap`, `amoadd` and so on
+    Amo(AmoFunction),
+    /// An AMO on 4 bytes: `amoswap.w`, `amoadd.w` and so on
+    AmoHalf(AmoFunction),
+    /// `amocas`
+    Amocas,
+    /// `store1`
+    Store1,
+    /// `store2`
+    Store2,
+    /// `store4`
+    Store4,
     /// `poll`
     Poll,
     /// `serve`
@@ -47,7 +60,7 @@ pub enum OpName {
 }
 
 /// All names, those of guests' operations first.
-const OP_NAMES: [OpName; 16] = [
+const OP_NAMES: [OpName; 38] = [
     OpName::Ecall,
     OpName::Load,
     OpName::Store,
@@ -60,6 +73,28 @@ const OP_NAMES: [OpName; 16] = [
     OpName::Sfence,
     OpName::Fencei,
     OpName::Wfi,
+    OpName::Amo(AmoFunction::Swap),
+    OpName::Amo(AmoFunction::Add),
+    OpName::Amo(AmoFunction::And),
+    OpName::Amo(AmoFunction::Or),
+    OpName::Amo(AmoFunction::Xor),
+    OpName::Amo(AmoFunction::Min),
+    OpName::Amo(AmoFunction::Max),
+    OpName::Amo(AmoFunction::Minu),
+    OpName::Amo(AmoFunction::Maxu),
+    OpName::AmoHalf(AmoFunction::Swap),
+    OpName::AmoHalf(AmoFunction::Add),
+    OpName::AmoHalf(AmoFunction::And),
+    OpName::AmoHalf(AmoFunction::Or),
+    OpName::AmoHalf(AmoFunction::Xor),
+    OpName::AmoHalf(AmoFunction::Min),
+    OpName::AmoHalf(AmoFunction::Max),
+    OpName::AmoHalf(AmoFunction::Minu),
+    OpName::AmoHalf(AmoFunction::Maxu),
+    OpName::Amocas,
+    OpName::Store1,
+    OpName::Store2,
+    OpName::Store4,
     OpName::Poll,
     OpName::Serve,
     OpName::Advance,
@@ -93,6 +128,12 @@ impl OpName {
             OpName::Sfence => words::SFENCE,
             OpName::Fencei => words::FENCEI,
             OpName::Wfi => words::WFI,
+            OpName::Amo(function) => amo_word(function),
+            OpName::AmoHalf(function) => amo_half_word(function),
+            OpName::Amocas => words::AMOCAS,
+            OpName::Store1 => words::STORE1,
+            OpName::Store2 => words::STORE2,
+            OpName::Store4 => words::STORE4,
             OpName::Poll => words::POLL,
             OpName::Serve => words::SERVE,
             OpName::Advance => words::ADVANCE,
@@ -123,6 +164,9 @@ impl OpName {
             OpName::Load | OpName::Fetch | OpName::Satp => any_numbers(1, 1),
             OpName::Sie | OpName::Tick => any_numbers(1, 1),
             OpName::Store => any_numbers(2, 2),
+            OpName::Amo(_) | OpName::AmoHalf(_) => any_numbers(2, 2),
+            OpName::Store1 | OpName::Store2 | OpName::Store4 => any_numbers(2, 2),
+            OpName::Amocas => any_numbers(3, 3),
             OpName::Sip | OpName::Clearssip | OpName::Fencei => any_numbers(0, 0),
             OpName::Wfi | OpName::Poll => any_numbers(0, 0),
             OpName::Serve | OpName::Advance => any_numbers(0, 0),
@@ -157,6 +201,21 @@ impl OpName {
             OpName::Sfence => Op::Sfence(argument_at(arguments, 0), argument_at(arguments, 1)),
             OpName::Fencei => Op::FenceI,
             OpName::Wfi => Op::Wfi,
+            OpName::Amo(function) => Op::Amo(
+                number_at(arguments, 0),
+                Amo::Double(function, number_at(arguments, 1)),
+            ),
+            OpName::AmoHalf(function) => Op::Amo(
+                number_at(arguments, 0),
+                Amo::Half(function, number_at(arguments, 1)),
+            ),
+            OpName::Amocas => Op::Amo(
+                number_at(arguments, 0),
+                Amo::Cas(number_at(arguments, 1), number_at(arguments, 2)),
+            ),
+            OpName::Store1 => Op::Amo(number_at(arguments, 0), Amo::Store1(number_at(arguments, 1))),
+            OpName::Store2 => Op::Amo(number_at(arguments, 0), Amo::Store2(number_at(arguments, 1))),
+            OpName::Store4 => Op::Amo(number_at(arguments, 0), Amo::Store4(number_at(arguments, 1))),
             OpName::Poll => Op::Poll,
             OpName::Serve => Op::Serve,
             OpName::Advance => Op::Advance,
@@ -182,6 +241,7 @@ impl OpName {
             Op::Sfence(..) => OpName::Sfence,
             Op::FenceI => OpName::Fencei,
             Op::Wfi => OpName::Wfi,
+            Op::Amo(_, amo) => amo_name(amo),
             Op::Poll => OpName::Poll,
             Op::Serve => OpName::Serve,
             Op::Advance => OpName::Advance,
@@ -207,11 +267,67 @@ impl OpName {
             OpName::Sfence => OpShape::SfenceBoth,
             OpName::Fencei => OpShape::FenceI,
             OpName::Wfi => OpShape::Wfi,
+            OpName::Amo(function) => OpShape::Amo(function),
+            OpName::AmoHalf(function) => OpShape::AmoHalf(function),
+            OpName::Amocas => OpShape::Amocas,
+            OpName::Store1 => OpShape::Store1,
+            OpName::Store2 => OpShape::Store2,
+            OpName::Store4 => OpShape::Store4,
             OpName::Poll => OpShape::Poll,
             OpName::Serve => OpShape::Serve,
             OpName::Advance => OpShape::Advance,
             OpName::Tick => OpShape::Tick,
         }
+    }
+}
+
+/// The name of an operation on the word around its address.
+fn amo_name(amo: &Amo) -> OpName
+    ensures { result ≡ amo_name amo.now }
+{
+    match amo {
+        Amo::Double(function, _) => OpName::Amo(*function),
+        Amo::Half(function, _) => OpName::AmoHalf(*function),
+        Amo::Cas(..) => OpName::Amocas,
+        Amo::Store1(_) => OpName::Store1,
+        Amo::Store2(_) => OpName::Store2,
+        Amo::Store4(_) => OpName::Store4,
+    }
+}
+
+/// The word of an AMO on 8 bytes.
+fn amo_word(function: AmoFunction) -> &'static [u8]
+    ensures word { result.now ≡ amo_word function }
+    ensures len { length result.now ≤ 9 }
+{
+    match function {
+        AmoFunction::Swap => words::AMOSWAP,
+        AmoFunction::Add => words::AMOADD,
+        AmoFunction::And => words::AMOAND,
+        AmoFunction::Or => words::AMOOR,
+        AmoFunction::Xor => words::AMOXOR,
+        AmoFunction::Min => words::AMOMIN,
+        AmoFunction::Max => words::AMOMAX,
+        AmoFunction::Minu => words::AMOMINU,
+        AmoFunction::Maxu => words::AMOMAXU,
+    }
+}
+
+/// The word of an AMO on 4 bytes.
+fn amo_half_word(function: AmoFunction) -> &'static [u8]
+    ensures word { result.now ≡ amo_half_word function }
+    ensures len { length result.now ≤ 9 }
+{
+    match function {
+        AmoFunction::Swap => words::AMOSWAP_W,
+        AmoFunction::Add => words::AMOADD_W,
+        AmoFunction::And => words::AMOAND_W,
+        AmoFunction::Or => words::AMOOR_W,
+        AmoFunction::Xor => words::AMOXOR_W,
+        AmoFunction::Min => words::AMOMIN_W,
+        AmoFunction::Max => words::AMOMAX_W,
+        AmoFunction::Minu => words::AMOMINU_W,
+        AmoFunction::Maxu => words::AMOMAXU_W,
     }
 }
 

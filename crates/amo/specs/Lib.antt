@@ -1,0 +1,3 @@
+pub mod Functions
+pub mod Parts
+pub mod Amos
