@@ -52,8 +52,8 @@ pub amo_at : (va at : ℕ) (amo : AnAmo) → IsReach va (Amo at amo) → word_at
 amo_at va at amo is = ap (λ (reach : Reach). reach.va) (same_Some _ _ is)
 
 -- what an AMO that isn't a fault writes
-written-amo : (at old : ℕ) (amo : AnAmo) (used : Option Entry) → writing_by (ops.Amo at amo) (if reads amo then Value old else Done) used ≡ Some (changed_by at amo used)
-written-amo at old amo used = by_reads (reads amo)
+pub amo-written : (at old : ℕ) (amo : AnAmo) (used : Option Entry) → writing_by (ops.Amo at amo) (if reads amo then Value old else Done) used ≡ Some (changed_by at amo used)
+amo-written at old amo used = by_reads (reads amo)
   where
     by_reads : (is : Bool) → writing_by (ops.Amo at amo) (if is then Value old else Done) used ≡ Some (changed_by at amo used)
     by_reads true = refl
@@ -149,7 +149,7 @@ module _ (c : Config) (memory : ℕ → Option ℕ) (w : Way) (va : ℕ) where
           let here : pa ≡ phys_at (used_by w) (word_at (size amo) at) =
           place_of_used memory w va (kind_of (Amo at amo)) pa is ∙ ap (phys_at (used_by w)) (sym (amo_at va at amo is_reach)) in
           ap (λ word. written memory word (new_word amo at (unwrap_or (memory word) 0))) here
-          ∙ ap (λ writing. written_by c writing memory) (sym (written-amo at (whole.read_at memory words pa (Amo at amo)) amo (used_by w)))
+          ∙ ap (λ writing. written_by c writing memory) (sym (amo-written at (whole.read_at memory words pa (Amo at amo)) amo (used_by w)))
       by_place (Err cause) is = refl
 
   -- and so is the word that it fetches

@@ -32,6 +32,7 @@ op_arguments (ops.Ecall regs) = Number regs.eid ∷ Number regs.fid ∷ map Numb
 op_arguments (ops.Load va) = Number va ∷ []
 op_arguments (ops.Store va value) = Number va ∷ Number value ∷ []
 op_arguments (ops.Fetch va) = Number va ∷ []
+op_arguments (ops.Amo at amo) = Number at ∷ map Number (numbers amo)
 op_arguments (ops.WriteSatp value) = Number value ∷ []
 op_arguments (ops.WriteSie value) = Number value ∷ []
 op_arguments (ops.WriteSstatusSie value) = Number (bit value) ∷ []

@@ -46,12 +46,33 @@ fn op_argument(op: &Op, place: usize) -> Option<Item>
     match op {
         Op::Ecall(regs) => call_argument(regs, place),
         Op::Store(va, value) => item_of(&[Item::Number(*va), Item::Number(*value)], place),
+        Op::Amo(at, amo) => amo_argument(*at, amo, place),
         Op::Sfence(va, asid) => item_of(&[number_or_dash(*va), number_or_dash(*asid)], place),
         Op::Load(n) | Op::Fetch(n) => one(*n, place),
         Op::WriteSatp(n) | Op::WriteSie(n) | Op::Tick(n) => one(*n, place),
         Op::WriteSstatusSie(value) => one(u64::from(*value), place),
         Op::ReadSip | Op::ClearSsip | Op::Wfi | Op::FenceI => None,
         Op::Poll | Op::Serve | Op::Advance => None,
+    }
+}
+
+/// The number in a place of an operation on the word around its address.
+fn amo_argument(at: u64, amo: &Amo, place: usize) -> Option<Item>
+    ensures { result ≡ slice_get (op_arguments (ops.Amo at amo.now)) place }
+{
+    match amo {
+        Amo::Double(_, n) | Amo::Half(_, n) => item_of(&[Item::Number(at), Item::Number(*n)], place),
+        Amo::Store1(n) | Amo::Store2(n) | Amo::Store4(n) => {
+            item_of(&[Item::Number(at), Item::Number(*n)], place)
+        }
+        Amo::Cas(expected, value) => item_of(
+            &[
+                Item::Number(at),
+                Item::Number(*expected),
+                Item::Number(*value),
+            ],
+            place,
+        ),
     }
 }
 

@@ -135,6 +135,7 @@ fn op_onto(line: &mut LineText, op: &Op)
             line.hex(*value);
         }
         Op::Fetch(va) => hex_onto(line, OpName::Fetch.word(), *va),
+        Op::Amo(at, amo) => amo_onto(line, *at, amo),
         Op::WriteSatp(value) => hex_onto(line, OpName::Satp.word(), *value),
         Op::WriteSie(value) => hex_onto(line, OpName::Sie.word(), *value),
         Op::WriteSstatusSie(value) => decimal_onto(line, OpName::Sstatus.word(), bit_of(*value)),
@@ -151,6 +152,25 @@ fn op_onto(line: &mut LineText, op: &Op)
         Op::Serve => line.word(OpName::Serve.word()),
         Op::Advance => line.word(OpName::Advance.word()),
         Op::Tick(n) => hex_onto(line, OpName::Tick.word(), *n),
+    }
+}
+
+/// Appends an operation on the word around its address.
+#[inline(never)]
+fn amo_onto(line: &mut LineText, at: u64, amo: &Amo)
+    requires { length line.old + op_room ≤ page_room }
+    ensures text { line.new ≡ with_words line.old (op_words (Op.Amo at amo.now)) }
+    ensures len { length line.new ≤ length line.old + op_room }
+{
+    line.word(OpName::of_amo(amo).word());
+    line.hex(at);
+    match amo {
+        Amo::Double(_, n) | Amo::Half(_, n) => line.hex(*n),
+        Amo::Store1(n) | Amo::Store2(n) | Amo::Store4(n) => line.hex(*n),
+        Amo::Cas(expected, value) => {
+            line.hex(*expected);
+            line.hex(*value);
+        }
     }
 }
 

@@ -241,11 +241,25 @@ impl OpName {
             Op::Sfence(..) => OpName::Sfence,
             Op::FenceI => OpName::Fencei,
             Op::Wfi => OpName::Wfi,
-            Op::Amo(_, amo) => amo_name(amo),
+            Op::Amo(_, amo) => OpName::of_amo(amo),
             Op::Poll => OpName::Poll,
             Op::Serve => OpName::Serve,
             Op::Advance => OpName::Advance,
             Op::Tick(_) => OpName::Tick,
+        }
+    }
+
+    /// The name of an operation on the word around its address.
+    pub fn of_amo(amo: &Amo) -> OpName
+        ensures { result ≡ amo_name amo.now }
+    {
+        match amo {
+            Amo::Double(function, _) => OpName::Amo(*function),
+            Amo::Half(function, _) => OpName::AmoHalf(*function),
+            Amo::Cas(..) => OpName::Amocas,
+            Amo::Store1(_) => OpName::Store1,
+            Amo::Store2(_) => OpName::Store2,
+            Amo::Store4(_) => OpName::Store4,
         }
     }
 
@@ -278,20 +292,6 @@ impl OpName {
             OpName::Advance => OpShape::Advance,
             OpName::Tick => OpShape::Tick,
         }
-    }
-}
-
-/// The name of an operation on the word around its address.
-fn amo_name(amo: &Amo) -> OpName
-    ensures { result ≡ amo_name amo.now }
-{
-    match amo {
-        Amo::Double(function, _) => OpName::Amo(*function),
-        Amo::Half(function, _) => OpName::AmoHalf(*function),
-        Amo::Cas(..) => OpName::Amocas,
-        Amo::Store1(_) => OpName::Store1,
-        Amo::Store2(_) => OpName::Store2,
-        Amo::Store4(_) => OpName::Store4,
     }
 }
 
