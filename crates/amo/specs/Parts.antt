@@ -13,9 +13,8 @@ part size at word = word / 2 ^ bits_below size at % 2 ^ (8 * size)
 -- The word with this value, or its low bytes, as that part: the bytes above and below stay.
 abbrev pub with_part : (size at word value : ℕ) → ℕ
 with_part size at word value =
-    word % 2 ^ bits_below size at
-    + 2 ^ bits_below size at
-    * (value % 2 ^ (8 * size) + 2 ^ (8 * size) * (word / 2 ^ bits_below size at / 2 ^ (8 * size)))
+    (word / 2 ^ bits_below size at / 2 ^ (8 * size) * 2 ^ (8 * size) + value % 2 ^ (8 * size)) * 2 ^ bits_below size at
+    + word % 2 ^ bits_below size at
 
 -- The address of the word of 8 bytes around an address that is naturally aligned. Any other address is left as it is,
 -- and so isn't aligned to 8.

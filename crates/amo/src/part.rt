@@ -27,6 +27,6 @@ pub fn with_part(size: u64, at: u64, word: u64, value: u64) -> u64
     let below = bits_below(size, at);
     let bits = 8 * size;
     let above = word >> below >> bits;
-    let low = word % (1 << below);
-    low + (((value % (1 << bits)) + (above << bits)) << below)
+    let upper = (above << bits) + value % (1 << bits);
+    (upper << below) + word % (1 << below)
 }

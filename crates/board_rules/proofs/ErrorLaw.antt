@@ -2,6 +2,8 @@
 use Rattle.std.proofs.Common.{◌≡◌, ◌+◌, ℕ, Bool, true, false, List, [], ◌∷◌, length, refl, sym, ap, ◌∙◌, arith}
 use Rattle.std.specs.Prelude.{Option, Some, None, Result, Ok, Err, nat_le, not, if◌then◌else◌, is_none, sum_by}
 use Rattle.std.specs.List.{filter_map}
+use Rattle.amo.specs.Amos.{reads, size}
+use Rattle.amo.specs.Parts.{word_at}
 use Rattle.sbi_abi.specs.declared.answer.SbiError.{SbiError}
 use Rattle.tlb_model.specs.declared.fence.Flush.{Flush}
 use Rattle.rfence.specs.Turns.{Quiet}
@@ -33,7 +35,7 @@ use Rattle.board_terms.specs.declared.op.Op.{Op}
 use Rattle.board_terms.specs.declared.op.Op.TheVariants.{Ecall, Load, Store, Fetch, Amo, WriteSatp, WriteSie, WriteSstatusSie, ReadSip, ClearSsip, Wfi, Sfence, FenceI, Poll, Serve, Advance, Tick}
 use Rattle.board_terms.specs.declared.reply.Refusal.{Refusal}
 use Rattle.board_terms.specs.declared.reply.Reply.{Reply}
-use Rattle.board_terms.specs.declared.reply.Reply.TheVariants.{Ret, Done}
+use Rattle.board_terms.specs.declared.reply.Reply.TheVariants.{Ret, Value, Done}
 use Rattle.board_rules.specs.Course.{harts_of}
 use Rattle.sv39.specs.declared.cause.Cause.{Cause}
 use Rattle.tlb_model.specs.declared.caches.Caches.{Caches}

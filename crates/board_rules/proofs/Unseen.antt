@@ -4,6 +4,8 @@ use Rattle.std.specs.Prelude.{Some, None, filter, is_some, nat_le, not, sum_by, 
 use Rattle.std.specs.List.{list_any, range_with_len}
 use Rattle.std.proofs.lemmas.Bool.{cases_lt, le-leb, leb-false}
 use Rattle.hart_mask.proofs.Sets.{has-ids_where}
+use Rattle.amo.specs.Amos.{size}
+use Rattle.amo.specs.Parts.{word_at}
 use Rattle.sbi_abi.specs.declared.answer.SbiError.TheVariants.{AlreadyAvailable, Failed, InvalidAddress, InvalidParam}
 use Rattle.sbi_abi.specs.declared.call.Call.{Call}
 use Rattle.sbi_abi.specs.declared.call.Call.TheVariants.{Hsm}

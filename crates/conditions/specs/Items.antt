@@ -1,5 +1,6 @@
 -- An accepted step as words (profile).
 use Rattle.std.specs.Prelude.{ℕ, Bool, true, false, List, [], ◌∷◌, map, Option, Some, None, Ok}
+use Rattle.amo.specs.Amos.{numbers}
 use Rattle.board_terms.specs.declared.op.Actor.{Actor}
 use Rattle.board_terms.specs.declared.op.Actor.TheVariants as actors
 use Rattle.board_terms.specs.declared.op.Op.{Op}

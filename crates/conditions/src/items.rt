@@ -1,9 +1,11 @@
 //! The words of an accepted step, one after the other.
 ghost use Rattle.std.specs.Prelude.{◌≡◌, ◌∷◌, [], slice_get};
 ghost use Rattle.conditions.specs.Items.{actor_item, number_or_dash, op_arguments, op_items, reply_items, said_arguments, said_items, step_items};
+ghost use Rattle.board_terms.specs.declared.op.Op.TheVariants as ops;
 ghost use Rattle.board_terms.specs.declared.op.Op.TheVariants.{Ecall};
 ghost use Rattle.condition_script.specs.declared.items.Item.TheVariants as words;
 
+use amo::Amo;
 use board_core::{Actor, Event, Op};
 use condition_script::{Item, Name};
 use sbi_abi::Regs;

@@ -4,6 +4,7 @@ ghost use Rattle.std.specs.List.{join_with_byte};
 ghost use Rattle.printed_lines.specs.LineText.{arguments_room, decimal_room, hex_room, line_room, op_room, page_room, reply_room, with_words};
 ghost use Rattle.printed_lines.specs.Sinks.{Puts};
 ghost use Rattle.printed_lines.specs.Words.{bit_of, hex, hex_or_dash, actor_word, board_line_words, event_words, as_line, line_words, op_words, reply_words, said_words, spaces_words};
+ghost use Rattle.board_terms.specs.declared.op.Op.TheVariants as ops;
 ghost use Rattle.board_terms.specs.declared.op.Op.TheVariants.{Ecall};
 ghost use Rattle.script_lines.specs.declared.said.Said.TheVariants.{Entry, Ret, Value};
 ghost use Rattle.script_lines.specs.declared.script.Doing.TheVariants.{Cut};
@@ -11,6 +12,7 @@ ghost use Rattle.script_lines.specs.declared.script.Doing.TheVariants.{Cut};
 use crate::line_text::LineText;
 use crate::page::Page;
 use crate::sink::{Failed, Sink, write_all};
+use amo::Amo;
 use board_terms::{Actor, Config, Op, Refusal, Reply};
 use sbi_abi::Regs;
 use script_lines::{Doing, OpName, SaidName};
@@ -159,7 +161,7 @@ fn op_onto(line: &mut LineText, op: &Op)
 #[inline(never)]
 fn amo_onto(line: &mut LineText, at: u64, amo: &Amo)
     requires { length line.old + op_room ≤ page_room }
-    ensures text { line.new ≡ with_words line.old (op_words (Op.Amo at amo.now)) }
+    ensures text { line.new ≡ with_words line.old (op_words (ops.Amo at amo.now)) }
     ensures len { length line.new ≤ length line.old + op_room }
 {
     line.word(OpName::of_amo(amo).word());

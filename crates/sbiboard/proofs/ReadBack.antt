@@ -8,6 +8,8 @@ use Rattle.std.proofs.lemmas.Bool.{and_parts, eqb-true}
 use Rattle.std.proofs.lemmas.Fmt.{decimal_is_IsNumeral, digits_is_IsNumeral}
 use Rattle.std.proofs.lemmas.List.{append_assoc, append-nil, length-map}
 use Rattle.std.proofs.lemmas.List.FromFn.{fill_by_all}
+use Rattle.amo.specs.declared.amo.Amo.TheVariants as amos
+use Rattle.amo.specs.declared.function.AmoFunction.TheVariants as functions
 use Rattle.sbi_abi.specs.declared.call.Regs.{Regs}
 use Rattle.sv39.specs.declared.cause.Cause.{Cause}
 use Rattle.sv39.specs.declared.cause.Cause.TheVariants as causes

@@ -8,6 +8,7 @@ use Rattle.board_terms.specs.Limits.{numbers_of}
 use Rattle.board_core.specs.Opening.{Opening}
 use Rattle.board_terms.specs.declared.op.Actor.{Actor}
 use Rattle.board_terms.specs.declared.op.Actor.TheVariants.{Hart, Clock}
+use Rattle.amo.specs.Amos.{numbers}
 use Rattle.board_terms.specs.declared.op.Op.{Op}
 use Rattle.board_terms.specs.declared.op.Op.TheVariants.{Ecall, Load, Store, Fetch, Amo, WriteSatp, WriteSie, Sfence, Tick}
 use Rattle.board_terms.specs.declared.reply.Refusal.{Refusal}
