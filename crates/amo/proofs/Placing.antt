@@ -10,8 +10,11 @@ module _ (word value s b : ℕ) (inside : word < 2 ^ 64) (fits : s + b ≤ 64) w
   abbrev left : ℕ
   left = 64 - s - b
 
+  parted : 64 ≡ left + (s + b)
+  parted = omega (arith, fits)
+
   above : word / 2 ^ s / 2 ^ b < 2 ^ left
-  above = subst (λ n. n < 2 ^ left) (sym (shr-shr word s b)) (shr_below word left (s + b) (subst (λ k. word < 2 ^ k) (omega (arith, fits)) inside))
+  above = subst (λ n. n < 2 ^ left) (sym (shr-shr word s b)) (shr_below word left (s + b) (subst (λ k. word < 2 ^ k) parted inside))
 
   pub above_whole : word / 2 ^ s / 2 ^ b * 2 ^ b % 2 ^ 64 ≡ word / 2 ^ s / 2 ^ b * 2 ^ b
   above_whole = shl_whole (word / 2 ^ s / 2 ^ b) left b 64 above (omega (arith, fits))
@@ -26,7 +29,8 @@ module _ (word value s b : ℕ) (inside : word < 2 ^ 64) (fits : s + b ≤ 64) w
   pub upper_fits : upper < 2 ^ 64
   upper_fits =
       let room : 2 ^ (b + left) * 1 ≤ 2 ^ (b + left) * 2 ^ s = mul-le (2 ^ (b + left)) 1 (2 ^ (b + left)) (2 ^ s) (omega arith) (omega (arith, pow_pos s)) in
-      let all : 2 ^ (b + left) * 2 ^ s ≡ 2 ^ 64 = sym (pow-add 2 (b + left) s) ∙ ap (λ k. 2 ^ k) (omega (arith, fits)) in
+      let joined : b + left + s ≡ 64 = omega (arith, fits) in
+      let all : 2 ^ (b + left) * 2 ^ s ≡ 2 ^ 64 = sym (pow-add 2 (b + left) s) ∙ ap (λ k. 2 ^ k) joined in
       omega (arith, upper_below, room, all)
 
   pub upper_whole : upper * 2 ^ s % 2 ^ 64 ≡ upper * 2 ^ s
@@ -34,5 +38,5 @@ module _ (word value s b : ℕ) (inside : word < 2 ^ 64) (fits : s + b ≤ 64) w
 
   pub all_fit : upper * 2 ^ s + word % 2 ^ s < 2 ^ 64
   all_fit =
-      subst (λ k. upper * 2 ^ s + word % 2 ^ s < 2 ^ k) (omega (arith, fits))
-      (cat_below upper (word % 2 ^ s) (b + left) s upper_below (mod_below word (2 ^ s) (pow_pos s)))
+      let joined : s + (b + left) ≡ 64 = omega (arith, fits) in
+      subst (λ k. upper * 2 ^ s + word % 2 ^ s < 2 ^ k) joined (cat_below upper (word % 2 ^ s) (b + left) s upper_below (mod_below word (2 ^ s) (pow_pos s)))

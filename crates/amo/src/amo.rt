@@ -76,7 +76,7 @@ impl Amo {
         match self {
             Amo::Double(function, operand) => function.on_double(word, operand),
             Amo::Half(function, operand) => {
-                let made = function.on_half(half(at, word), operand as u32);
+                let made = function.on_half(half(at, word), (operand % (1 << 32)) as u32);
                 with_part(4, at, word, u64::from(made))
             }
             Amo::Cas(expected, value) => {
