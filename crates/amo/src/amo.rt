@@ -69,7 +69,8 @@ impl Amo {
         }
     }
 
-    /// The word after it.
+    /// The word after it. (A function of its own, so the board's other steps stay short.)
+    #[inline(never)]
     pub fn new_word(self, at: u64, word: u64) -> u64
         ensures { result ≡ new_word self at word }
     {

@@ -9,6 +9,9 @@ use hart_access::Access;
 use std::marker::Model;
 use tlb_model::Entry;
 
+// (an event takes no more room than a call's registers and eight bytes)
+const _: () = prove!(size_of::<Event>() == 72);
+
 /// An accepted step: its actor, its operation, its reply, and the TLB entry that an access used.
 #[derive(Clone, Copy, Debug, PartialEq, Eq)]
 pub struct Event {
