@@ -1,10 +1,11 @@
 -- Words of patterns that no step of a board can have in their places (profile).
-use Rattle.std.specs.Prelude.{◌≡◌, ◌≢◌, ℕ, ◌≤◌, ◌⊎◌, ◌==◌, ◌||◌, Bool, true, false, List, slice_get, Option, Some}
+use Rattle.std.specs.Prelude.{◌≡◌, ◌≢◌, ℕ, ◌≤◌, ◌⊎◌, ◌==◌, ◌||◌, not, Bool, true, false, List, slice_get, Option, Some}
+use Rattle.amo.specs.Names.{reads_by}
 use Rattle.sv39.specs.Causes.{access_fault, cause_number, misaligned, page_fault}
 use Rattle.sv39.specs.declared.cause.Kind.{Kind}
 use Rattle.sv39.specs.declared.cause.Kind.TheVariants as kinds
 use Rattle.script_lines.specs.declared.op_name.OpName.{OpName}
-use Rattle.script_lines.specs.declared.op_name.OpName.TheVariants.{Ecall, Load, Store, Fetch, Satp, Sie, Sstatus, Sip, Clearssip, Sfence, Fencei, Wfi, Amo, AmoHalf, Amocas, Store1, Store2, Store4, Poll, Serve, Advance, Tick}
+use Rattle.script_lines.specs.declared.op_name.OpName.TheVariants.{Ecall, Load, Store, Fetch, Satp, Sie, Sstatus, Sip, Clearssip, Sfence, Fencei, Wfi, Amo, Poll, Serve, Advance, Tick}
 use Rattle.script_lines.specs.declared.said_name.SaidName.{SaidName}
 use Rattle.script_lines.specs.declared.said_name.SaidName.TheVariants as saids
 use Rattle.condition_script.specs.declared.items.Item.{Item}
@@ -70,18 +71,9 @@ is_reply_to Store saids.Done = true
 is_reply_to Store saids.Fault = true
 is_reply_to Fetch saids.Value = true
 is_reply_to Fetch saids.Fault = true
-is_reply_to (Amo function) saids.Value = true
-is_reply_to (Amo function) saids.Fault = true
-is_reply_to (AmoHalf function) saids.Value = true
-is_reply_to (AmoHalf function) saids.Fault = true
-is_reply_to Amocas saids.Value = true
-is_reply_to Amocas saids.Fault = true
-is_reply_to Store1 saids.Done = true
-is_reply_to Store1 saids.Fault = true
-is_reply_to Store2 saids.Done = true
-is_reply_to Store2 saids.Fault = true
-is_reply_to Store4 saids.Done = true
-is_reply_to Store4 saids.Fault = true
+is_reply_to (Amo name) saids.Value = reads_by name
+is_reply_to (Amo name) saids.Done = not (reads_by name)
+is_reply_to (Amo name) saids.Fault = true
 is_reply_to Satp saids.Done = true
 is_reply_to Sie saids.Done = true
 is_reply_to Sstatus saids.Done = true
@@ -101,12 +93,7 @@ is_reply_to op said = false
 -- whether an operation of this name is a store, an AMO or a compare-and-swap
 abbrev pub writes : OpName → Bool
 writes Store = true
-writes (Amo function) = true
-writes (AmoHalf function) = true
-writes Amocas = true
-writes Store1 = true
-writes Store2 = true
-writes Store4 = true
+writes (Amo name) = true
 writes op = false
 
 -- Whether a number is the cause of a fault of this access.

@@ -12,7 +12,7 @@ ghost use Rattle.script_lines.specs.declared.script.Doing.TheVariants.{Cut};
 use crate::line_text::LineText;
 use crate::page::Page;
 use crate::sink::{Failed, Sink, write_all};
-use amo::Amo;
+use amo::{Amo, AmoName};
 use board_terms::{Actor, Config, Op, Refusal, Reply};
 use sbi_abi::Regs;
 use script_lines::{Doing, OpName, SaidName};
@@ -164,7 +164,7 @@ fn amo_onto(line: &mut LineText, at: u64, amo: &Amo)
     ensures text { line.new ≡ with_words line.old (op_words (ops.Amo at amo.now)) }
     ensures len { length line.new ≤ length line.old + op_room }
 {
-    line.word(OpName::of_amo(amo).word());
+    line.word(OpName::Amo(AmoName::of(*amo)).word());
     line.hex(at);
     match amo {
         Amo::Double(_, n) | Amo::Half(_, n) => line.hex(*n),

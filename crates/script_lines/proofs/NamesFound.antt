@@ -6,6 +6,7 @@ use Rattle.std.proofs.lemmas.Bool.{cases_Bool}
 use Rattle.std.proofs.lemmas.Option.{same_Some}
 use Rattle.std.proofs.lemmas.Slice.Eq.{bytes_eq-Decides}
 use Rattle.amo.specs.declared.function.AmoFunction.TheVariants as functions
+use Rattle.amo.specs.declared.name.AmoName.TheVariants as amos
 use Rattle.script_lines.specs.declared.op_name.OpName.{OpName}
 use Rattle.script_lines.specs.declared.op_name.OpName.TheVariants as ops
 use Rattle.script_lines.specs.declared.said_name.SaidName.{SaidName}
@@ -46,28 +47,28 @@ op_found ops.Clearssip = record { found = refl; guests = refl }
 op_found ops.Sfence = record { found = refl; guests = refl }
 op_found ops.Fencei = record { found = refl; guests = refl }
 op_found ops.Wfi = record { found = refl; guests = refl }
-op_found (ops.Amo functions.Swap) = record { found = refl; guests = refl }
-op_found (ops.Amo functions.Add) = record { found = refl; guests = refl }
-op_found (ops.Amo functions.And) = record { found = refl; guests = refl }
-op_found (ops.Amo functions.Or) = record { found = refl; guests = refl }
-op_found (ops.Amo functions.Xor) = record { found = refl; guests = refl }
-op_found (ops.Amo functions.Min) = record { found = refl; guests = refl }
-op_found (ops.Amo functions.Max) = record { found = refl; guests = refl }
-op_found (ops.Amo functions.Minu) = record { found = refl; guests = refl }
-op_found (ops.Amo functions.Maxu) = record { found = refl; guests = refl }
-op_found (ops.AmoHalf functions.Swap) = record { found = refl; guests = refl }
-op_found (ops.AmoHalf functions.Add) = record { found = refl; guests = refl }
-op_found (ops.AmoHalf functions.And) = record { found = refl; guests = refl }
-op_found (ops.AmoHalf functions.Or) = record { found = refl; guests = refl }
-op_found (ops.AmoHalf functions.Xor) = record { found = refl; guests = refl }
-op_found (ops.AmoHalf functions.Min) = record { found = refl; guests = refl }
-op_found (ops.AmoHalf functions.Max) = record { found = refl; guests = refl }
-op_found (ops.AmoHalf functions.Minu) = record { found = refl; guests = refl }
-op_found (ops.AmoHalf functions.Maxu) = record { found = refl; guests = refl }
-op_found ops.Amocas = record { found = refl; guests = refl }
-op_found ops.Store1 = record { found = refl; guests = refl }
-op_found ops.Store2 = record { found = refl; guests = refl }
-op_found ops.Store4 = record { found = refl; guests = refl }
+op_found (ops.Amo (amos.Double functions.Swap)) = record { found = refl; guests = refl }
+op_found (ops.Amo (amos.Double functions.Add)) = record { found = refl; guests = refl }
+op_found (ops.Amo (amos.Double functions.And)) = record { found = refl; guests = refl }
+op_found (ops.Amo (amos.Double functions.Or)) = record { found = refl; guests = refl }
+op_found (ops.Amo (amos.Double functions.Xor)) = record { found = refl; guests = refl }
+op_found (ops.Amo (amos.Double functions.Min)) = record { found = refl; guests = refl }
+op_found (ops.Amo (amos.Double functions.Max)) = record { found = refl; guests = refl }
+op_found (ops.Amo (amos.Double functions.Minu)) = record { found = refl; guests = refl }
+op_found (ops.Amo (amos.Double functions.Maxu)) = record { found = refl; guests = refl }
+op_found (ops.Amo (amos.Half functions.Swap)) = record { found = refl; guests = refl }
+op_found (ops.Amo (amos.Half functions.Add)) = record { found = refl; guests = refl }
+op_found (ops.Amo (amos.Half functions.And)) = record { found = refl; guests = refl }
+op_found (ops.Amo (amos.Half functions.Or)) = record { found = refl; guests = refl }
+op_found (ops.Amo (amos.Half functions.Xor)) = record { found = refl; guests = refl }
+op_found (ops.Amo (amos.Half functions.Min)) = record { found = refl; guests = refl }
+op_found (ops.Amo (amos.Half functions.Max)) = record { found = refl; guests = refl }
+op_found (ops.Amo (amos.Half functions.Minu)) = record { found = refl; guests = refl }
+op_found (ops.Amo (amos.Half functions.Maxu)) = record { found = refl; guests = refl }
+op_found (ops.Amo amos.Cas) = record { found = refl; guests = refl }
+op_found (ops.Amo amos.Store1) = record { found = refl; guests = refl }
+op_found (ops.Amo amos.Store2) = record { found = refl; guests = refl }
+op_found (ops.Amo amos.Store4) = record { found = refl; guests = refl }
 op_found ops.Poll = record { found = refl; guests = refl }
 op_found ops.Serve = record { found = refl; guests = refl }
 op_found ops.Advance = record { found = refl; guests = refl }

@@ -1,8 +1,8 @@
 -- The packed form of a line: its shape, and its numbers among those of all lines (profile).
 use Rattle.std.specs.Prelude.{ℕ, suc, ◌<◌, true, false, ◌&&◌, if◌then◌else◌, ◌==◌, List, [], ◌∷◌, ◌++◌, take, length, slice_index_or, Option, Some, None}
 use Rattle.std.specs.Int.{w64, cast_signed, cast_unsigned}
-use Rattle.amo.specs.declared.amo.Amo.TheVariants as amos
 use Rattle.amo.specs.Amos.{numbers}
+use Rattle.amo.specs.Names.{made_of, name_of}
 use Rattle.board_terms.specs.declared.op.Actor.{Actor}
 use Rattle.board_terms.specs.declared.op.Actor.TheVariants.{Hart, Clock}
 use Rattle.board_terms.specs.declared.op.Op.{Op}
@@ -14,7 +14,7 @@ use Rattle.script_lines.specs.declared.line_shape.ActorShape.TheVariants as acto
 use Rattle.script_lines.specs.declared.op_name.OpName.{OpName}
 use Rattle.script_lines.specs.declared.op_name.OpName.TheVariants as names
 use Rattle.script_lines.specs.declared.op_shape.OpShape.{OpShape}
-use Rattle.script_lines.specs.declared.op_shape.OpShape.TheVariants.{Ecall, Load, Store, Fetch, WriteSatp, WriteSie, SstatusOff, SstatusOn, ReadSip, ClearSsip, SfenceAll, SfenceAddress, SfenceAsid, SfenceBoth, FenceI, Wfi, Amo, AmoHalf, Amocas, Store1, Store2, Store4, Poll, Serve, Advance, Tick}
+use Rattle.script_lines.specs.declared.op_shape.OpShape.TheVariants.{Ecall, Load, Store, Fetch, WriteSatp, WriteSie, SstatusOff, SstatusOn, ReadSip, ClearSsip, SfenceAll, SfenceAddress, SfenceAsid, SfenceBoth, FenceI, Wfi, Amo, Poll, Serve, Advance, Tick}
 use Rattle.script_lines.specs.declared.said.Said.{Said}
 use Rattle.script_lines.specs.declared.said.Said.TheVariants as says
 use Rattle.script_lines.specs.declared.said_name.SaidName.{SaidName}
@@ -53,12 +53,7 @@ shape_of (ops.Sfence None (Some asid)) = SfenceAsid
 shape_of (ops.Sfence (Some va) (Some asid)) = SfenceBoth
 shape_of ops.FenceI = FenceI
 shape_of ops.Wfi = Wfi
-shape_of (ops.Amo at (amos.Double function operand)) = Amo function
-shape_of (ops.Amo at (amos.Half function operand)) = AmoHalf function
-shape_of (ops.Amo at (amos.Cas expected value)) = Amocas
-shape_of (ops.Amo at (amos.Store1 value)) = Store1
-shape_of (ops.Amo at (amos.Store2 value)) = Store2
-shape_of (ops.Amo at (amos.Store4 value)) = Store4
+shape_of (ops.Amo at amo) = Amo (name_of amo)
 shape_of ops.Poll = Poll
 shape_of ops.Serve = Serve
 shape_of ops.Advance = Advance
@@ -78,12 +73,7 @@ named_shape names.Clearssip = ClearSsip
 named_shape names.Sfence = SfenceBoth
 named_shape names.Fencei = FenceI
 named_shape names.Wfi = Wfi
-named_shape (names.Amo function) = Amo function
-named_shape (names.AmoHalf function) = AmoHalf function
-named_shape names.Amocas = Amocas
-named_shape names.Store1 = Store1
-named_shape names.Store2 = Store2
-named_shape names.Store4 = Store4
+named_shape (names.Amo name) = Amo name
 named_shape names.Poll = Poll
 named_shape names.Serve = Serve
 named_shape names.Advance = Advance
@@ -137,12 +127,7 @@ op_made SfenceAsid ns = ops.Sfence None (Some (number_from ns 0))
 op_made SfenceBoth ns = ops.Sfence (Some (number_from ns 0)) (Some (number_from ns 1))
 op_made FenceI ns = ops.FenceI
 op_made Wfi ns = ops.Wfi
-op_made (Amo function) ns = ops.Amo (number_from ns 0) (amos.Double function (number_from ns 1))
-op_made (AmoHalf function) ns = ops.Amo (number_from ns 0) (amos.Half function (number_from ns 1))
-op_made Amocas ns = ops.Amo (number_from ns 0) (amos.Cas (number_from ns 1) (number_from ns 2))
-op_made Store1 ns = ops.Amo (number_from ns 0) (amos.Store1 (number_from ns 1))
-op_made Store2 ns = ops.Amo (number_from ns 0) (amos.Store2 (number_from ns 1))
-op_made Store4 ns = ops.Amo (number_from ns 0) (amos.Store4 (number_from ns 1))
+op_made (Amo name) ns = ops.Amo (number_from ns 0) (made_of name (number_from ns 1) (number_from ns 2))
 op_made Poll ns = ops.Poll
 op_made Serve ns = ops.Serve
 op_made Advance ns = ops.Advance

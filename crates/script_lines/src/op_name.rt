@@ -1,12 +1,12 @@
 //! Operations by their names: the word of each, the numbers that can follow it, and whether a guest can do it.
 ghost use Rattle.std.specs.Prelude.{◌≡◌, ◌≤◌, MatchOption, None, length};
-ghost use Rattle.script_lines.specs.Names.{amo_half_word, amo_name, amo_word, is_guests, name_of, op_from, op_named, op_places, op_word, regs_of};
+ghost use Rattle.script_lines.specs.Names.{amo_word, is_guests, name_of, op_from, op_named, op_places, op_word, regs_of};
 ghost use Rattle.script_lines.specs.Packing.{named_shape};
 
 use crate::op_shape::{OP_NUMBERS, OpShape};
 use crate::places::{Places, any_numbers, argument_at, number_at};
 use crate::words;
-use amo::{Amo, AmoFunction};
+use amo::{AmoFunction, AmoName};
 use board_terms::Op;
 use sbi_abi::Regs;
 
@@ -37,18 +37,8 @@ pub enum OpName {
     Fencei,
     /// `wfi`
     Wfi,
-    /// An AMO on 8 bytes: `amoswap`, `amoadd` and so on
-    Amo(AmoFunction),
-    /// An AMO on 4 bytes: `amoswap.w`, `amoadd.w` and so on
-    AmoHalf(AmoFunction),
-    /// `amocas`
-    Amocas,
-    /// `store1`
-    Store1,
-    /// `store2`
-    Store2,
-    /// `store4`
-    Store4,
+    /// `amoswap` to `amomaxu`, the same with `.w`, `amocas`, `store1`, `store2` and `store4`
+    Amo(AmoName),
     /// `poll`
     Poll,
     /// `serve`
@@ -73,28 +63,28 @@ const OP_NAMES: [OpName; 38] = [
     OpName::Sfence,
     OpName::Fencei,
     OpName::Wfi,
-    OpName::Amo(AmoFunction::Swap),
-    OpName::Amo(AmoFunction::Add),
-    OpName::Amo(AmoFunction::And),
-    OpName::Amo(AmoFunction::Or),
-    OpName::Amo(AmoFunction::Xor),
-    OpName::Amo(AmoFunction::Min),
-    OpName::Amo(AmoFunction::Max),
-    OpName::Amo(AmoFunction::Minu),
-    OpName::Amo(AmoFunction::Maxu),
-    OpName::AmoHalf(AmoFunction::Swap),
-    OpName::AmoHalf(AmoFunction::Add),
-    OpName::AmoHalf(AmoFunction::And),
-    OpName::AmoHalf(AmoFunction::Or),
-    OpName::AmoHalf(AmoFunction::Xor),
-    OpName::AmoHalf(AmoFunction::Min),
-    OpName::AmoHalf(AmoFunction::Max),
-    OpName::AmoHalf(AmoFunction::Minu),
-    OpName::AmoHalf(AmoFunction::Maxu),
-    OpName::Amocas,
-    OpName::Store1,
-    OpName::Store2,
-    OpName::Store4,
+    OpName::Amo(AmoName::Double(AmoFunction::Swap)),
+    OpName::Amo(AmoName::Double(AmoFunction::Add)),
+    OpName::Amo(AmoName::Double(AmoFunction::And)),
+    OpName::Amo(AmoName::Double(AmoFunction::Or)),
+    OpName::Amo(AmoName::Double(AmoFunction::Xor)),
+    OpName::Amo(AmoName::Double(AmoFunction::Min)),
+    OpName::Amo(AmoName::Double(AmoFunction::Max)),
+    OpName::Amo(AmoName::Double(AmoFunction::Minu)),
+    OpName::Amo(AmoName::Double(AmoFunction::Maxu)),
+    OpName::Amo(AmoName::Half(AmoFunction::Swap)),
+    OpName::Amo(AmoName::Half(AmoFunction::Add)),
+    OpName::Amo(AmoName::Half(AmoFunction::And)),
+    OpName::Amo(AmoName::Half(AmoFunction::Or)),
+    OpName::Amo(AmoName::Half(AmoFunction::Xor)),
+    OpName::Amo(AmoName::Half(AmoFunction::Min)),
+    OpName::Amo(AmoName::Half(AmoFunction::Max)),
+    OpName::Amo(AmoName::Half(AmoFunction::Minu)),
+    OpName::Amo(AmoName::Half(AmoFunction::Maxu)),
+    OpName::Amo(AmoName::Cas),
+    OpName::Amo(AmoName::Store1),
+    OpName::Amo(AmoName::Store2),
+    OpName::Amo(AmoName::Store4),
     OpName::Poll,
     OpName::Serve,
     OpName::Advance,
@@ -128,12 +118,7 @@ impl OpName {
             OpName::Sfence => words::SFENCE,
             OpName::Fencei => words::FENCEI,
             OpName::Wfi => words::WFI,
-            OpName::Amo(function) => amo_word(function),
-            OpName::AmoHalf(function) => amo_half_word(function),
-            OpName::Amocas => words::AMOCAS,
-            OpName::Store1 => words::STORE1,
-            OpName::Store2 => words::STORE2,
-            OpName::Store4 => words::STORE4,
+            OpName::Amo(name) => amo_word(name),
             OpName::Poll => words::POLL,
             OpName::Serve => words::SERVE,
             OpName::Advance => words::ADVANCE,
@@ -164,9 +149,7 @@ impl OpName {
             OpName::Load | OpName::Fetch | OpName::Satp => any_numbers(1, 1),
             OpName::Sie | OpName::Tick => any_numbers(1, 1),
             OpName::Store => any_numbers(2, 2),
-            OpName::Amo(_) | OpName::AmoHalf(_) => any_numbers(2, 2),
-            OpName::Store1 | OpName::Store2 | OpName::Store4 => any_numbers(2, 2),
-            OpName::Amocas => any_numbers(3, 3),
+            OpName::Amo(name) => any_numbers(1 + name.count(), 1 + name.count()),
             OpName::Sip | OpName::Clearssip | OpName::Fencei => any_numbers(0, 0),
             OpName::Wfi | OpName::Poll => any_numbers(0, 0),
             OpName::Serve | OpName::Advance => any_numbers(0, 0),
@@ -201,21 +184,10 @@ impl OpName {
             OpName::Sfence => Op::Sfence(argument_at(arguments, 0), argument_at(arguments, 1)),
             OpName::Fencei => Op::FenceI,
             OpName::Wfi => Op::Wfi,
-            OpName::Amo(function) => Op::Amo(
+            OpName::Amo(name) => Op::Amo(
                 number_at(arguments, 0),
-                Amo::Double(function, number_at(arguments, 1)),
+                name.amo(number_at(arguments, 1), number_at(arguments, 2)),
             ),
-            OpName::AmoHalf(function) => Op::Amo(
-                number_at(arguments, 0),
-                Amo::Half(function, number_at(arguments, 1)),
-            ),
-            OpName::Amocas => Op::Amo(
-                number_at(arguments, 0),
-                Amo::Cas(number_at(arguments, 1), number_at(arguments, 2)),
-            ),
-            OpName::Store1 => Op::Amo(number_at(arguments, 0), Amo::Store1(number_at(arguments, 1))),
-            OpName::Store2 => Op::Amo(number_at(arguments, 0), Amo::Store2(number_at(arguments, 1))),
-            OpName::Store4 => Op::Amo(number_at(arguments, 0), Amo::Store4(number_at(arguments, 1))),
             OpName::Poll => Op::Poll,
             OpName::Serve => Op::Serve,
             OpName::Advance => Op::Advance,
@@ -241,25 +213,11 @@ impl OpName {
             Op::Sfence(..) => OpName::Sfence,
             Op::FenceI => OpName::Fencei,
             Op::Wfi => OpName::Wfi,
-            Op::Amo(_, amo) => OpName::of_amo(amo),
+            Op::Amo(_, amo) => OpName::Amo(AmoName::of(*amo)),
             Op::Poll => OpName::Poll,
             Op::Serve => OpName::Serve,
             Op::Advance => OpName::Advance,
             Op::Tick(_) => OpName::Tick,
-        }
-    }
-
-    /// The name of an operation on the word around its address.
-    pub fn of_amo(amo: &Amo) -> OpName
-        ensures { result ≡ amo_name amo.now }
-    {
-        match amo {
-            Amo::Double(function, _) => OpName::Amo(*function),
-            Amo::Half(function, _) => OpName::AmoHalf(*function),
-            Amo::Cas(..) => OpName::Amocas,
-            Amo::Store1(_) => OpName::Store1,
-            Amo::Store2(_) => OpName::Store2,
-            Amo::Store4(_) => OpName::Store4,
         }
     }
 
@@ -281,12 +239,7 @@ impl OpName {
             OpName::Sfence => OpShape::SfenceBoth,
             OpName::Fencei => OpShape::FenceI,
             OpName::Wfi => OpShape::Wfi,
-            OpName::Amo(function) => OpShape::Amo(function),
-            OpName::AmoHalf(function) => OpShape::AmoHalf(function),
-            OpName::Amocas => OpShape::Amocas,
-            OpName::Store1 => OpShape::Store1,
-            OpName::Store2 => OpShape::Store2,
-            OpName::Store4 => OpShape::Store4,
+            OpName::Amo(name) => OpShape::Amo(name),
             OpName::Poll => OpShape::Poll,
             OpName::Serve => OpShape::Serve,
             OpName::Advance => OpShape::Advance,
@@ -295,39 +248,34 @@ impl OpName {
     }
 }
 
-/// The word of an AMO on 8 bytes.
-fn amo_word(function: AmoFunction) -> &'static [u8]
-    ensures word { result.now ≡ amo_word function }
+/// The word of an operation on the word around its address.
+fn amo_word(name: AmoName) -> &'static [u8]
+    ensures word { result.now ≡ amo_word name }
     ensures len { length result.now ≤ 9 }
 {
-    match function {
-        AmoFunction::Swap => words::AMOSWAP,
-        AmoFunction::Add => words::AMOADD,
-        AmoFunction::And => words::AMOAND,
-        AmoFunction::Or => words::AMOOR,
-        AmoFunction::Xor => words::AMOXOR,
-        AmoFunction::Min => words::AMOMIN,
-        AmoFunction::Max => words::AMOMAX,
-        AmoFunction::Minu => words::AMOMINU,
-        AmoFunction::Maxu => words::AMOMAXU,
-    }
-}
-
-/// The word of an AMO on 4 bytes.
-fn amo_half_word(function: AmoFunction) -> &'static [u8]
-    ensures word { result.now ≡ amo_half_word function }
-    ensures len { length result.now ≤ 9 }
-{
-    match function {
-        AmoFunction::Swap => words::AMOSWAP_W,
-        AmoFunction::Add => words::AMOADD_W,
-        AmoFunction::And => words::AMOAND_W,
-        AmoFunction::Or => words::AMOOR_W,
-        AmoFunction::Xor => words::AMOXOR_W,
-        AmoFunction::Min => words::AMOMIN_W,
-        AmoFunction::Max => words::AMOMAX_W,
-        AmoFunction::Minu => words::AMOMINU_W,
-        AmoFunction::Maxu => words::AMOMAXU_W,
+    match name {
+        AmoName::Double(AmoFunction::Swap) => words::AMOSWAP,
+        AmoName::Double(AmoFunction::Add) => words::AMOADD,
+        AmoName::Double(AmoFunction::And) => words::AMOAND,
+        AmoName::Double(AmoFunction::Or) => words::AMOOR,
+        AmoName::Double(AmoFunction::Xor) => words::AMOXOR,
+        AmoName::Double(AmoFunction::Min) => words::AMOMIN,
+        AmoName::Double(AmoFunction::Max) => words::AMOMAX,
+        AmoName::Double(AmoFunction::Minu) => words::AMOMINU,
+        AmoName::Double(AmoFunction::Maxu) => words::AMOMAXU,
+        AmoName::Half(AmoFunction::Swap) => words::AMOSWAP_W,
+        AmoName::Half(AmoFunction::Add) => words::AMOADD_W,
+        AmoName::Half(AmoFunction::And) => words::AMOAND_W,
+        AmoName::Half(AmoFunction::Or) => words::AMOOR_W,
+        AmoName::Half(AmoFunction::Xor) => words::AMOXOR_W,
+        AmoName::Half(AmoFunction::Min) => words::AMOMIN_W,
+        AmoName::Half(AmoFunction::Max) => words::AMOMAX_W,
+        AmoName::Half(AmoFunction::Minu) => words::AMOMINU_W,
+        AmoName::Half(AmoFunction::Maxu) => words::AMOMAXU_W,
+        AmoName::Cas => words::AMOCAS,
+        AmoName::Store1 => words::STORE1,
+        AmoName::Store2 => words::STORE2,
+        AmoName::Store4 => words::STORE4,
     }
 }
 

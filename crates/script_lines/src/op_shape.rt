@@ -2,7 +2,7 @@
 ghost use Rattle.std.specs.Prelude.{◌≡◌, ◌+◌, ◌≤◌, ◌++◌, ◌∷◌, [], take, length, vec_len, vec_capacity};
 ghost use Rattle.script_lines.specs.Packing.{kept_count, number_from, op_made, op_numbers, shape_of, used};
 
-use amo::{Amo, AmoFunction};
+use amo::{Amo, AmoName};
 use board_terms::Op;
 use sbi_abi::Regs;
 
@@ -28,12 +28,7 @@ pub enum OpShape {
     SfenceBoth,
     FenceI,
     Wfi,
-    Amo(AmoFunction),
-    AmoHalf(AmoFunction),
-    Amocas,
-    Store1,
-    Store2,
-    Store4,
+    Amo(AmoName),
     Poll,
     Serve,
     Advance,
@@ -108,10 +103,8 @@ impl OpShape {
             OpShape::ReadSip | OpShape::ClearSsip => numbers.len(),
             OpShape::SfenceAll | OpShape::SfenceAddress => numbers.len(),
             OpShape::SfenceAsid | OpShape::SfenceBoth => numbers.len(),
-            OpShape::FenceI | OpShape::Wfi | OpShape::Poll => numbers.len(),
+            OpShape::FenceI | OpShape::Wfi | OpShape::Amo(_) | OpShape::Poll => numbers.len(),
             OpShape::Serve | OpShape::Advance | OpShape::Tick => numbers.len(),
-            OpShape::Amo(_) | OpShape::AmoHalf(_) | OpShape::Amocas => numbers.len(),
-            OpShape::Store1 | OpShape::Store2 | OpShape::Store4 => numbers.len(),
         }
     }
 
@@ -140,29 +133,9 @@ impl OpShape {
             ),
             OpShape::FenceI => Op::FenceI,
             OpShape::Wfi => Op::Wfi,
-            OpShape::Amo(function) => Op::Amo(
+            OpShape::Amo(name) => Op::Amo(
                 number_from(numbers, 0),
-                Amo::Double(function, number_from(numbers, 1)),
-            ),
-            OpShape::AmoHalf(function) => Op::Amo(
-                number_from(numbers, 0),
-                Amo::Half(function, number_from(numbers, 1)),
-            ),
-            OpShape::Amocas => Op::Amo(
-                number_from(numbers, 0),
-                Amo::Cas(number_from(numbers, 1), number_from(numbers, 2)),
-            ),
-            OpShape::Store1 => Op::Amo(
-                number_from(numbers, 0),
-                Amo::Store1(number_from(numbers, 1)),
-            ),
-            OpShape::Store2 => Op::Amo(
-                number_from(numbers, 0),
-                Amo::Store2(number_from(numbers, 1)),
-            ),
-            OpShape::Store4 => Op::Amo(
-                number_from(numbers, 0),
-                Amo::Store4(number_from(numbers, 1)),
+                name.amo(number_from(numbers, 1), number_from(numbers, 2)),
             ),
             OpShape::Poll => Op::Poll,
             OpShape::Serve => Op::Serve,
@@ -222,32 +195,16 @@ fn put_amo(at: u64, amo: Amo, numbers: &mut Vec<u64>) -> OpShape
     ensures capacity { vec_capacity numbers.new ≡ vec_capacity numbers.old }
 {
     match amo {
-        Amo::Double(function, operand) => {
-            put_two(at, operand, numbers);
-            OpShape::Amo(function)
-        }
-        Amo::Half(function, operand) => {
-            put_two(at, operand, numbers);
-            OpShape::AmoHalf(function)
+        Amo::Double(_, operand) | Amo::Half(_, operand) => put_two(at, operand, numbers),
+        Amo::Store1(value) | Amo::Store2(value) | Amo::Store4(value) => {
+            put_two(at, value, numbers);
         }
         Amo::Cas(expected, value) => {
             put_two(at, expected, numbers);
             numbers.push_reserved(value);
-            OpShape::Amocas
-        }
-        Amo::Store1(value) => {
-            put_two(at, value, numbers);
-            OpShape::Store1
-        }
-        Amo::Store2(value) => {
-            put_two(at, value, numbers);
-            OpShape::Store2
-        }
-        Amo::Store4(value) => {
-            put_two(at, value, numbers);
-            OpShape::Store4
         }
     }
+    OpShape::Amo(AmoName::of(amo))
 }
 
 /// Appends the numbers of a local fence, and returns its shape, which says which numbers it has.

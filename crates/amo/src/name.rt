@@ -1,0 +1,75 @@
+//! Operations on the word of 8 bytes around an address, without their numbers.
+ghost use Rattle.std.specs.Prelude.{◌≡◌, ◌≤◌};
+ghost use Rattle.amo.specs.Names.{count, made_of, name_of, reads_by};
+
+use crate::amo::Amo;
+use crate::function::AmoFunction;
+
+/// An operation on the word of 8 bytes around its address, without its numbers.
+#[derive(Clone, Copy, Debug, PartialEq, Eq)]
+pub enum AmoName {
+    /// An AMO on 8 bytes.
+    Double(AmoFunction),
+    /// An AMO on 4 bytes.
+    Half(AmoFunction),
+    /// A compare-and-swap on 8 bytes.
+    Cas,
+    /// A store of 1 byte.
+    Store1,
+    /// A store of 2 bytes.
+    Store2,
+    /// A store of 4 bytes.
+    Store4,
+}
+
+impl AmoName {
+    /// The name of an operation.
+    pub fn of(amo: Amo) -> AmoName
+        ensures { result ≡ name_of amo }
+    {
+        match amo {
+            Amo::Double(function, _) => AmoName::Double(function),
+            Amo::Half(function, _) => AmoName::Half(function),
+            Amo::Cas(..) => AmoName::Cas,
+            Amo::Store1(_) => AmoName::Store1,
+            Amo::Store2(_) => AmoName::Store2,
+            Amo::Store4(_) => AmoName::Store4,
+        }
+    }
+
+    /// The operation of this name, with these numbers; only a compare-and-swap has the second one.
+    pub fn amo(self, first: u64, second: u64) -> Amo
+        ensures { result ≡ made_of self first second }
+    {
+        match self {
+            AmoName::Double(function) => Amo::Double(function, first),
+            AmoName::Half(function) => Amo::Half(function, first),
+            AmoName::Cas => Amo::Cas(first, second),
+            AmoName::Store1 => Amo::Store1(first),
+            AmoName::Store2 => Amo::Store2(first),
+            AmoName::Store4 => Amo::Store4(first),
+        }
+    }
+
+    /// How many numbers its operation has.
+    pub fn count(self) -> usize
+        ensures count { result ≡ count self }
+        ensures few { result ≤ 2 }
+    {
+        match self {
+            AmoName::Cas => 2,
+            AmoName::Double(_) | AmoName::Half(_) => 1,
+            AmoName::Store1 | AmoName::Store2 | AmoName::Store4 => 1,
+        }
+    }
+
+    /// Whether its operation reads the old value.
+    pub fn reads(self) -> bool
+        ensures { result ≡ reads_by self }
+    {
+        match self {
+            AmoName::Double(_) | AmoName::Half(_) | AmoName::Cas => true,
+            AmoName::Store1 | AmoName::Store2 | AmoName::Store4 => false,
+        }
+    }
+}
