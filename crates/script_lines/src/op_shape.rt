@@ -195,16 +195,32 @@ fn put_amo(at: u64, amo: Amo, numbers: &mut Vec<u64>) -> OpShape
     ensures capacity { vec_capacity numbers.new ≡ vec_capacity numbers.old }
 {
     match amo {
-        Amo::Double(_, operand) | Amo::Half(_, operand) => put_two(at, operand, numbers),
-        Amo::Store1(value) | Amo::Store2(value) | Amo::Store4(value) => {
-            put_two(at, value, numbers);
+        Amo::Double(function, operand) => {
+            put_two(at, operand, numbers);
+            OpShape::Amo(AmoName::Double(function))
+        }
+        Amo::Half(function, operand) => {
+            put_two(at, operand, numbers);
+            OpShape::Amo(AmoName::Half(function))
         }
         Amo::Cas(expected, value) => {
             put_two(at, expected, numbers);
             numbers.push_reserved(value);
+            OpShape::Amo(AmoName::Cas)
+        }
+        Amo::Store1(value) => {
+            put_two(at, value, numbers);
+            OpShape::Amo(AmoName::Store1)
+        }
+        Amo::Store2(value) => {
+            put_two(at, value, numbers);
+            OpShape::Amo(AmoName::Store2)
+        }
+        Amo::Store4(value) => {
+            put_two(at, value, numbers);
+            OpShape::Amo(AmoName::Store4)
         }
     }
-    OpShape::Amo(AmoName::of(amo))
 }
 
 /// Appends the numbers of a local fence, and returns its shape, which says which numbers it has.
