@@ -14,6 +14,19 @@ name_of (amos.Store1 value) = Store1
 name_of (amos.Store2 value) = Store2
 name_of (amos.Store4 value) = Store4
 
+-- its first number, and its second one, which is 0 if it has none
+abbrev pub first_number : Amo → ℕ
+first_number (amos.Double function operand) = operand
+first_number (amos.Half function operand) = operand
+first_number (amos.Cas expected value) = expected
+first_number (amos.Store1 value) = value
+first_number (amos.Store2 value) = value
+first_number (amos.Store4 value) = value
+
+abbrev pub second_number : Amo → ℕ
+second_number (amos.Cas expected value) = value
+second_number amo = 0
+
 -- the operation of this name, with these numbers; only a compare-and-swap has the second one
 abbrev pub made_of : AmoName → (first second : ℕ) → Amo
 made_of (Double function) first second = amos.Double function first

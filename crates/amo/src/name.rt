@@ -1,6 +1,6 @@
 //! Operations on the word of 8 bytes around an address, without their numbers.
 ghost use Rattle.std.specs.Prelude.{◌≡◌, ◌≤◌};
-ghost use Rattle.amo.specs.Names.{count, made_of, name_of, reads_by};
+ghost use Rattle.amo.specs.Names.{count, first_number, made_of, name_of, reads_by, second_number};
 
 use crate::amo::Amo;
 use crate::function::AmoFunction;
@@ -20,6 +20,29 @@ pub enum AmoName {
     Store2,
     /// A store of 4 bytes.
     Store4,
+}
+
+impl Amo {
+    /// Its first number: the operand, the expected value, or the value that is stored.
+    pub fn first_number(self) -> u64
+        ensures { result ≡ first_number self }
+    {
+        match self {
+            Amo::Double(_, operand) | Amo::Half(_, operand) => operand,
+            Amo::Cas(expected, _) => expected,
+            Amo::Store1(value) | Amo::Store2(value) | Amo::Store4(value) => value,
+        }
+    }
+
+    /// Its second number, or 0 if it has none.
+    pub fn second_number(self) -> u64
+        ensures { result ≡ second_number self }
+    {
+        match self {
+            Amo::Cas(_, value) => value,
+            _ => 0,
+        }
+    }
 }
 
 impl AmoName {

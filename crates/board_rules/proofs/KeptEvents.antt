@@ -1,6 +1,9 @@
 -- An event that is kept says what it was made of.
 use Rattle.std.proofs.Common.{◌≡◌, ℕ, Option, refl, sym, ap, ◌∙◌}
 use Rattle.std.proofs.lemmas.Bool.{lt-ltb}
+use Rattle.amo.specs.declared.amo.Amo.{Amo}
+use Rattle.amo.specs.declared.amo.Amo.TheVariants as amos
+use Rattle.amo.specs.Names.{first_number, made_of, name_of, second_number}
 use Rattle.tlb_model.specs.Entries.{Entry}
 use Rattle.board_terms.specs.declared.op.Actor.{Actor}
 use Rattle.board_terms.specs.declared.op.Actor.TheVariants.{Hart, Clock}
@@ -17,6 +20,15 @@ use Rattle.board_rules.specs.Room.{FitsBeside, IsByte, IsShort, by_of, first_of}
 actor_again : (a : Actor) → IsByte a → actor_of (by_of a) ≡ a
 actor_again (Hart h) short = rw (lt-ltb h 255 short) refl
 actor_again Clock short = refl
+
+-- an operation by its name and its numbers
+amo_again : (amo : Amo) → made_of (name_of amo) (first_number amo) (second_number amo) ≡ amo
+amo_again (amos.Double function operand) = refl
+amo_again (amos.Half function operand) = refl
+amo_again (amos.Cas expected value) = refl
+amo_again (amos.Store1 value) = refl
+amo_again (amos.Store2 value) = refl
+amo_again (amos.Store4 value) = refl
 
 module _ (head : Head) (used : Option Entry) (first opaque : ℕ) where
   head_again : (op : Op) → head_in (what_of head op used first opaque) ≡ head
@@ -43,7 +55,7 @@ module _ (head : Head) (used : Option Entry) (first opaque : ℕ) where
   op_again (ops.Load va) = refl
   op_again (ops.Store va value) = refl
   op_again (ops.Fetch va) = refl
-  op_again (ops.Amo at amo) = refl
+  op_again (ops.Amo at amo) = ap (λ (made : Amo). ops.Amo at made) (amo_again amo)
   op_again (ops.WriteSatp value) = refl
   op_again (ops.WriteSie value) = refl
   op_again (ops.WriteSstatusSie value) = refl
