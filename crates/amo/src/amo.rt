@@ -80,13 +80,7 @@ impl Amo {
                 let made = function.on_half(half(at, word), (operand % (1 << 32)) as u32);
                 with_part(4, at, word, u64::from(made))
             }
-            Amo::Cas(expected, value) => {
-                if word == expected {
-                    value
-                } else {
-                    word
-                }
-            }
+            Amo::Cas(expected, value) => { if word == expected { value } else { word } }
             Amo::Store1(value) => with_part(1, at, word, value),
             Amo::Store2(value) => with_part(2, at, word, value),
             Amo::Store4(value) => with_part(4, at, word, value),

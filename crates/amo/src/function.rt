@@ -38,20 +38,8 @@ impl AmoFunction {
             AmoFunction::And => old & operand,
             AmoFunction::Or => old | operand,
             AmoFunction::Xor => old ^ operand,
-            AmoFunction::Min => {
-                if is_low {
-                    old
-                } else {
-                    operand
-                }
-            }
-            AmoFunction::Max => {
-                if is_low {
-                    operand
-                } else {
-                    old
-                }
-            }
+            AmoFunction::Min => { if is_low { old } else { operand } }
+            AmoFunction::Max => { if is_low { operand } else { old } }
             AmoFunction::Minu => old.min(operand),
             AmoFunction::Maxu => old.max(operand),
         }
@@ -68,20 +56,8 @@ impl AmoFunction {
             AmoFunction::And => old & operand,
             AmoFunction::Or => old | operand,
             AmoFunction::Xor => old ^ operand,
-            AmoFunction::Min => {
-                if is_low {
-                    old
-                } else {
-                    operand
-                }
-            }
-            AmoFunction::Max => {
-                if is_low {
-                    operand
-                } else {
-                    old
-                }
-            }
+            AmoFunction::Min => { if is_low { old } else { operand } }
+            AmoFunction::Max => { if is_low { operand } else { old } }
             AmoFunction::Minu => old.min(operand),
             AmoFunction::Maxu => old.max(operand),
         }

@@ -63,7 +63,10 @@ fn amo_argument(at: u64, amo: &Amo, place: usize) -> Option<Item>
     ensures { result ≡ slice_get (op_arguments (ops.Amo at amo.now)) place }
 {
     match amo {
-        Amo::Double(_, n) | Amo::Half(_, n) => item_of(&[Item::Number(at), Item::Number(*n)], place),
+        Amo::Double(_, n) | Amo::Half(_, n) => item_of(
+            &[Item::Number(at), Item::Number(*n)],
+            place,
+        ),
         Amo::Store1(n) | Amo::Store2(n) | Amo::Store4(n) => {
             item_of(&[Item::Number(at), Item::Number(*n)], place)
         }

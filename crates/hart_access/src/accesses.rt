@@ -28,13 +28,7 @@ impl Access {
             Access::Load => Kind::Load,
             Access::Store(_) => Kind::Store,
             Access::Fetch => Kind::Fetch,
-            Access::Amo(_, amo) => {
-                if amo.reads() {
-                    Kind::Amo
-                } else {
-                    Kind::Store
-                }
-            }
+            Access::Amo(_, amo) => { if amo.reads() { Kind::Amo } else { Kind::Store } }
         }
     }
 }

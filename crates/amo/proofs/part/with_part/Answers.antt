@@ -28,7 +28,7 @@ overflow_add-result c =
     let one = one_shl b 64 (omega (arith, c.requires)) in
     let other = one_shl s 64 (omega (arith, c.requires, fits)) in
     let same : (word / 2 ^ s / 2 ^ b * 2 ^ b % 2 ^ 64 + value % (1 * 2 ^ b % 2 ^ 64)) * 2 ^ s % 2 ^ 64 + word % (1 * 2 ^ s % 2 ^ 64)
-        ≡ (word / 2 ^ s / 2 ^ b * 2 ^ b + value % 2 ^ b) * 2 ^ s + word % 2 ^ s =
+    ≡ (word / 2 ^ s / 2 ^ b * 2 ^ b + value % 2 ^ b) * 2 ^ s + word % 2 ^ s =
     (λ i. (above_whole word value s b inside fits i + value % one i) * 2 ^ s % 2 ^ 64 + word % other i)
     ∙ ap (λ n. n + word % 2 ^ s) (upper_whole word value s b inside fits) in
     omega (arith, same, all_fit word value s b inside fits)
