@@ -5,16 +5,16 @@ use Rattle.std.specs.Int.{cast_signed, cast_unsigned, w32, w64}
 use Rattle.amo.specs.declared.amo.Amo.{Amo}
 use Rattle.amo.specs.declared.amo.Amo.TheVariants.{Double, Half, Cas, Store1, Store2, Store4}
 use Rattle.amo.specs.Functions.{made}
-use Rattle.amo.specs.Parts.{part, with_part}
+use Rattle.amo.specs.Parts.{with_part, word_part}
 
 -- The number of bytes that it reads or writes. Its address is aligned to it, or the access fails.
-abbrev pub size : Amo → ℕ
-size (Double function operand) = 8
-size (Half function operand) = 4
-size (Cas expected value) = 8
-size (Store1 value) = 1
-size (Store2 value) = 2
-size (Store4 value) = 4
+abbrev pub amo_size : Amo → ℕ
+amo_size (Double function operand) = 8
+amo_size (Half function operand) = 4
+amo_size (Cas expected value) = 8
+amo_size (Store1 value) = 1
+amo_size (Store2 value) = 2
+amo_size (Store4 value) = 4
 
 -- whether it reads the old value; a store only writes
 abbrev pub reads : Amo → Bool
@@ -27,7 +27,7 @@ reads amo = true
 -- (profile).
 abbrev pub old_value : Amo → (at word : ℕ) → ℕ
 old_value (Double function operand) at word = word
-old_value (Half function operand) at word = cast_unsigned w64 (cast_signed w32 (part 4 at word))
+old_value (Half function operand) at word = cast_unsigned w64 (cast_signed w32 (word_part 4 at word))
 old_value (Cas expected value) at word = word
 old_value (Store1 value) at word = 0
 old_value (Store2 value) at word = 0
@@ -38,7 +38,7 @@ old_value (Store4 value) at word = 0
 abbrev pub new_word : Amo → (at word : ℕ) → ℕ
 new_word (Double function operand) at word = made function w64 word operand
 new_word (Half function operand) at word =
-    with_part 4 at word (made function w32 (part 4 at word) (operand % 2 ^ 32))
+    with_part 4 at word (made function w32 (word_part 4 at word) (operand % 2 ^ 32))
 new_word (Cas expected value) at word = if word == expected then value else word
 new_word (Store1 value) at word = with_part 1 at word value
 new_word (Store2 value) at word = with_part 2 at word value

@@ -5,9 +5,9 @@ use Rattle.amo.specs.declared.function.AmoFunction.{AmoFunction}
 use Rattle.amo.specs.declared.function.AmoFunction.TheVariants.{Swap, Add, And, Or, Xor, Min, Max, Minu, Maxu}
 
 -- the number of bits of a value of 4 bytes, or of 8
-abbrev pub bits_of : Width → ℕ
-bits_of w32 = 32
-bits_of w = 64
+abbrev pub width_bits : Width → ℕ
+width_bits w32 = 32
+width_bits w = 64
 
 -- whether the first value is at most the second, both as signed numbers
 abbrev pub signed_le : Width → (first second : ℕ) → Bool
@@ -16,7 +16,7 @@ signed_le w first second = int_le (cast_signed w first) (cast_signed w second)
 -- The value that an AMO writes, by its width, from the old value and the operand (unprivileged ISA 8.4).
 abbrev pub made : AmoFunction → Width → (old operand : ℕ) → ℕ
 made Swap w old operand = operand
-made Add w old operand = (old + operand) % 2 ^ bits_of w
+made Add w old operand = (old + operand) % 2 ^ width_bits w
 made And w old operand = bit_and old operand
 made Or w old operand = bit_or old operand
 made Xor w old operand = bit_xor old operand

@@ -6,26 +6,27 @@ use Rattle.amo.specs.declared.name.AmoName.{AmoName}
 use Rattle.amo.specs.declared.name.AmoName.TheVariants.{Double, Half, Cas, Store1, Store2, Store4}
 
 -- the name of an operation
-abbrev pub name_of : Amo → AmoName
-name_of (amos.Double function operand) = Double function
-name_of (amos.Half function operand) = Half function
-name_of (amos.Cas expected value) = Cas
-name_of (amos.Store1 value) = Store1
-name_of (amos.Store2 value) = Store2
-name_of (amos.Store4 value) = Store4
+abbrev pub amo_name : Amo → AmoName
+amo_name (amos.Double function operand) = Double function
+amo_name (amos.Half function operand) = Half function
+amo_name (amos.Cas expected value) = Cas
+amo_name (amos.Store1 value) = Store1
+amo_name (amos.Store2 value) = Store2
+amo_name (amos.Store4 value) = Store4
 
--- its first number, and its second one, which is 0 if it has none
-abbrev pub first_number : Amo → ℕ
-first_number (amos.Double function operand) = operand
-first_number (amos.Half function operand) = operand
-first_number (amos.Cas expected value) = expected
-first_number (amos.Store1 value) = value
-first_number (amos.Store2 value) = value
-first_number (amos.Store4 value) = value
+-- its first number: the operand, the expected value, or the value that is stored
+abbrev pub amo_first : Amo → ℕ
+amo_first (amos.Double function operand) = operand
+amo_first (amos.Half function operand) = operand
+amo_first (amos.Cas expected value) = expected
+amo_first (amos.Store1 value) = value
+amo_first (amos.Store2 value) = value
+amo_first (amos.Store4 value) = value
 
-abbrev pub second_number : Amo → ℕ
-second_number (amos.Cas expected value) = value
-second_number amo = 0
+-- its second number, or 0 if it has none
+abbrev pub amo_second : Amo → ℕ
+amo_second (amos.Cas expected value) = value
+amo_second amo = 0
 
 -- the operation of this name, with these numbers; only a compare-and-swap has the second one
 abbrev pub made_of : AmoName → (first second : ℕ) → Amo

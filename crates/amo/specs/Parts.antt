@@ -7,8 +7,8 @@ abbrev pub bits_below : (size at : ℕ) → ℕ
 bits_below size at = 8 * (at % 8 - at % size)
 
 -- The part of the word, of so many bytes, that has the address.
-abbrev pub part : (size at word : ℕ) → ℕ
-part size at word = word / 2 ^ bits_below size at % 2 ^ (8 * size)
+abbrev pub word_part : (size at word : ℕ) → ℕ
+word_part size at word = word / 2 ^ bits_below size at % 2 ^ (8 * size)
 
 -- The word with this value, or its low bytes, as that part: the bytes above and below stay.
 abbrev pub with_part : (size at word value : ℕ) → ℕ

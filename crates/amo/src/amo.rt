@@ -1,11 +1,11 @@
 //! Operations on the word of 8 bytes around an address.
 ghost use Rattle.std.specs.Prelude.{◌≡◌};
 ghost use Rattle.std.specs.Int.{cast_signed, cast_unsigned, w32, w64};
-ghost use Rattle.amo.specs.Amos.{new_word, old_value, reads, size};
-ghost use Rattle.amo.specs.Parts.{part, word_at};
+ghost use Rattle.amo.specs.Amos.{amo_size, new_word, old_value, reads};
+ghost use Rattle.amo.specs.Parts.{word_at, word_part};
 
 use crate::function::AmoFunction;
-use crate::part::{part, with_part};
+use crate::part::{with_part, word_part};
 
 /// An operation that reads and writes the word of 8 bytes around its address in one step.
 #[derive(Clone, Copy, Debug, PartialEq, Eq)]
@@ -27,7 +27,7 @@ pub enum Amo {
 impl Amo {
     /// The number of bytes that it reads or writes. Its address must be aligned to it.
     pub fn size(self) -> u64
-        ensures { result ≡ size self }
+        ensures { result ≡ amo_size self }
     {
         match self {
             Amo::Double(..) | Amo::Cas(..) => 8,
@@ -49,7 +49,7 @@ impl Amo {
 
     /// The address of the word of 8 bytes around its address. An address that isn't aligned stays as it is.
     pub fn word_at(self, at: u64) -> u64
-        ensures { result ≡ word_at (size self) at }
+        ensures { result ≡ word_at (amo_size self) at }
     {
         if at % self.size() == 0 {
             at - at % 8
@@ -90,9 +90,9 @@ impl Amo {
 
 /// The half of the word that has the address.
 fn half(at: u64, word: u64) -> u32
-    ensures { result ≡ part 4 at word }
+    ensures { result ≡ word_part 4 at word }
 {
-    part(4, at, word) as u32
+    word_part(4, at, word) as u32
 }
 
 /// The sign-extension of 4 bytes to 8.

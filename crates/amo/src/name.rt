@@ -1,6 +1,6 @@
 //! Operations on the word of 8 bytes around an address, without their numbers.
 ghost use Rattle.std.specs.Prelude.{◌≡◌, ◌≤◌};
-ghost use Rattle.amo.specs.Names.{count, first_number, made_of, name_of, reads_by, second_number};
+ghost use Rattle.amo.specs.Names.{amo_first, amo_name, amo_second, count, made_of, reads_by};
 
 use crate::amo::Amo;
 use crate::function::AmoFunction;
@@ -24,8 +24,8 @@ pub enum AmoName {
 
 impl Amo {
     /// Its first number: the operand, the expected value, or the value that is stored.
-    pub fn first_number(self) -> u64
-        ensures { result ≡ first_number self }
+    pub fn first(self) -> u64
+        ensures { result ≡ amo_first self }
     {
         match self {
             Amo::Double(_, operand) | Amo::Half(_, operand) => operand,
@@ -35,8 +35,8 @@ impl Amo {
     }
 
     /// Its second number, or 0 if it has none.
-    pub fn second_number(self) -> u64
-        ensures { result ≡ second_number self }
+    pub fn second(self) -> u64
+        ensures { result ≡ amo_second self }
     {
         match self {
             Amo::Cas(_, value) => value,
@@ -48,7 +48,7 @@ impl Amo {
 impl AmoName {
     /// The name of an operation.
     pub fn of(amo: Amo) -> AmoName
-        ensures { result ≡ name_of amo }
+        ensures { result ≡ amo_name amo }
     {
         match amo {
             Amo::Double(function, _) => AmoName::Double(function),

@@ -1,6 +1,6 @@
 //! Parts of a word of 8 bytes.
 ghost use Rattle.std.specs.Prelude.{◌≡◌, ◌≤◌, ◌+◌, ◌*◌, ◌⊎◌};
-ghost use Rattle.amo.specs.Parts.{bits_below, part, with_part};
+ghost use Rattle.amo.specs.Parts.{bits_below, with_part, word_part};
 
 /// The number of bits below the part of so many bytes that has the address.
 fn bits_below(size: u64, at: u64) -> u64
@@ -12,9 +12,9 @@ fn bits_below(size: u64, at: u64) -> u64
 }
 
 /// The part of the word, of so many bytes, that has the address.
-pub fn part(size: u64, at: u64, word: u64) -> u64
+pub fn word_part(size: u64, at: u64, word: u64) -> u64
     requires { (size ≡ 1) ⊎ (size ≡ 2) ⊎ (size ≡ 4) }
-    ensures { result ≡ part size at word }
+    ensures { result ≡ word_part size at word }
 {
     (word >> bits_below(size, at)) % (1 << (8 * size))
 }

@@ -3,7 +3,7 @@ use Rattle.std.proofs.Common.{◌≡◌, ◌≢◌, ℕ, ◌%◌, Bool, true, fa
 use Rattle.std.specs.Prelude.{Option, Some, None, Result, Ok, Err, unwrap_or, ◌==◌, if◌then◌else◌}
 use Rattle.std.proofs.lemmas.Option.{same_Some}
 use Rattle.amo.specs.declared.amo.Amo.{Amo as AnAmo}
-use Rattle.amo.specs.Amos.{new_word, reads, size}
+use Rattle.amo.specs.Amos.{new_word, reads, amo_size}
 use Rattle.amo.specs.Parts.{word_at}
 use Rattle.sv39.specs.declared.cause.Cause.{Cause}
 use Rattle.sv39.specs.declared.cause.Kind.{Kind}
@@ -48,7 +48,7 @@ filled_by_act covers date cache own is None = refl
 filled_by_act covers date cache own is (Some item) = rw is refl
 
 -- the word around an AMO's address is the one that its access is to
-pub amo_at : (va at : ℕ) (amo : AnAmo) → IsReach va (Amo at amo) → word_at (size amo) at ≡ va
+pub amo_at : (va at : ℕ) (amo : AnAmo) → IsReach va (Amo at amo) → word_at (amo_size amo) at ≡ va
 amo_at va at amo is = ap (λ (reach : Reach). reach.va) (same_Some _ _ is)
 
 -- what an AMO that isn't a fault writes
@@ -68,7 +68,7 @@ module _ (o : Opening) (past : List Event) (h va : ℕ) (reply : Reply) where
   tlb_by_act date cache (Store value) used satp hit is = filled_by_act covers_entry date cache _ (eqb-same h) (filling_of (hit (address_by satp va)) used)
   tlb_by_act date cache Fetch used satp hit is = filled_by_act covers_entry date cache _ (eqb-same h) (filling_of (hit (address_by satp va)) used)
   tlb_by_act date cache (Amo at amo) used satp hit is =
-      filled_by_act covers_entry date cache _ (eqb-same h) (filling_of (hit (address_by satp (word_at (size amo) at))) used)
+      filled_by_act covers_entry date cache _ (eqb-same h) (filling_of (hit (address_by satp (word_at (amo_size amo) at))) used)
       ∙ ap (λ word. filled_if cache date (filling_of (hit (address_by satp word)) used)) (amo_at va at amo is)
 
   pub words_by_act : (date : ℕ) (cache : Contents FetchWord) (what : Access) (filling : Option FetchWord)
@@ -146,7 +146,7 @@ module _ (c : Config) (memory : ℕ → Option ℕ) (w : Way) (va : ℕ) where
           → whole.stored_by memory place (Amo at amo)
           ≡ written_by c (writing_by (access_op va (Amo at amo)) (access_reply_of (Amo at amo) (whole.answer_by memory words place (Amo at amo))) (used_by w)) memory
       by_place (Ok pa) is =
-          let here : pa ≡ phys_at (used_by w) (word_at (size amo) at) =
+          let here : pa ≡ phys_at (used_by w) (word_at (amo_size amo) at) =
           place_of_used memory w va (kind_of (Amo at amo)) pa is ∙ ap (phys_at (used_by w)) (sym (amo_at va at amo is_reach)) in
           ap (λ word. written memory word (new_word amo at (unwrap_or (memory word) 0))) here
           ∙ ap (λ writing. written_by c writing memory) (sym (amo-written at (whole.read_at memory words pa (Amo at amo)) amo (used_by w)))

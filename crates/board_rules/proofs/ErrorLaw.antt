@@ -2,7 +2,7 @@
 use Rattle.std.proofs.Common.{◌≡◌, ◌+◌, ℕ, Bool, true, false, List, [], ◌∷◌, length, refl, sym, ap, ◌∙◌, arith}
 use Rattle.std.specs.Prelude.{Option, Some, None, Result, Ok, Err, nat_le, not, if◌then◌else◌, is_none, sum_by}
 use Rattle.std.specs.List.{filter_map}
-use Rattle.amo.specs.Amos.{reads, size}
+use Rattle.amo.specs.Amos.{reads, amo_size}
 use Rattle.amo.specs.Parts.{word_at}
 use Rattle.sbi_abi.specs.declared.answer.SbiError.{SbiError}
 use Rattle.tlb_model.specs.declared.fence.Flush.{Flush}
@@ -190,7 +190,7 @@ module _ (o : Opening) (past : List Event) where
       by_op (Fetch va) is = absurd
           (let e = sym (accessed_well accesses.Fetch (whole.answer (memory o past) (satp o past x) (hit o past x) (cached o past x) va accesses.Fetch)) ∙ ap is_error is ∙ error in cc)
       by_op (Amo at amo) is = absurd
-          (let e = sym (accessed_well (accesses.Amo at amo) (whole.answer (memory o past) (satp o past x) (hit o past x) (cached o past x) (word_at (size amo) at) (accesses.Amo at amo))) ∙ ap is_error is ∙ error in cc)
+          (let e = sym (accessed_well (accesses.Amo at amo) (whole.answer (memory o past) (satp o past x) (hit o past x) (cached o past x) (word_at (amo_size amo) at) (accesses.Amo at amo))) ∙ ap is_error is ∙ error in cc)
       by_op (WriteSatp value) is = absurd (let e = rw (← is) at error in cc)
       by_op (WriteSie value) is = absurd (let e = rw (← is) at error in cc)
       by_op (WriteSstatusSie value) is = absurd (let e = rw (← is) at error in cc)

@@ -3,7 +3,7 @@ use Rattle.std.proofs.Common.{◌≡◌, ℕ, Option, refl, sym, ap, ◌∙◌}
 use Rattle.std.proofs.lemmas.Bool.{lt-ltb}
 use Rattle.amo.specs.declared.amo.Amo.{Amo}
 use Rattle.amo.specs.declared.amo.Amo.TheVariants as amos
-use Rattle.amo.specs.Names.{first_number, made_of, name_of, second_number}
+use Rattle.amo.specs.Names.{amo_first, made_of, amo_name, amo_second}
 use Rattle.tlb_model.specs.Entries.{Entry}
 use Rattle.board_terms.specs.declared.op.Actor.{Actor}
 use Rattle.board_terms.specs.declared.op.Actor.TheVariants.{Hart, Clock}
@@ -22,7 +22,7 @@ actor_again (Hart h) short = rw (lt-ltb h 255 short) refl
 actor_again Clock short = refl
 
 -- an operation by its name and its numbers
-amo_again : (amo : Amo) → made_of (name_of amo) (first_number amo) (second_number amo) ≡ amo
+amo_again : (amo : Amo) → made_of (amo_name amo) (amo_first amo) (amo_second amo) ≡ amo
 amo_again (amos.Double function operand) = refl
 amo_again (amos.Half function operand) = refl
 amo_again (amos.Cas expected value) = refl

@@ -2,7 +2,7 @@
 use Rattle.std.proofs.Common.{◌<◌, ◌^◌, ℕ, Bool, true, false, List, refl, arith, FitsSigned, w8}
 use Rattle.std.specs.Prelude.{pos, Option, Some, None, Result, Ok, Err, if◌then◌else◌}
 use Rattle.amo.specs.declared.amo.Amo.{Amo}
-use Rattle.amo.specs.Amos.{reads, size}
+use Rattle.amo.specs.Amos.{reads, amo_size}
 use Rattle.amo.specs.Parts.{word_at}
 use Rattle.sbi_abi.specs.declared.answer.SbiError.{SbiError}
 use Rattle.sbi_abi.specs.declared.answer.SbiError.TheVariants as errors
@@ -184,7 +184,7 @@ module _ (x : ℕ) where
   reply_room o past (ops.Load va) = access_room va accesses.Load _
   reply_room o past (ops.Store va value) = access_room va (accesses.Store value) _
   reply_room o past (ops.Fetch va) = access_room va accesses.Fetch _
-  reply_room o past (ops.Amo at amo) = access_room (word_at (size amo) at) (accesses.Amo at amo) _
+  reply_room o past (ops.Amo at amo) = access_room (word_at (amo_size amo) at) (accesses.Amo at amo) _
   reply_room o past ops.ReadSip = (tt, tt, tt)
   reply_room o past ops.Poll = (zero_short, tt, refl)
   reply_room o past ops.Advance = advance_room (state o past x) (last_start o past x) (resume_point o past x)

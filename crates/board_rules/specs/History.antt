@@ -1,6 +1,6 @@
 -- An accepted step, as a board records it (profile).
 use Rattle.std.specs.Prelude.{◌≡◌, ℕ, Option, Some, None}
-use Rattle.amo.specs.Amos.{size}
+use Rattle.amo.specs.Amos.{amo_size}
 use Rattle.amo.specs.Parts.{word_at}
 use Rattle.tlb_model.specs.Entries.{Entry}
 use Rattle.hart_access.specs.declared.accesses.Access.{Access}
@@ -41,7 +41,7 @@ abbrev pub access_of : Op → Option Reach
 access_of (Load va) = Some (record { va = va; access = accesses.Load })
 access_of (Store va value) = Some (record { va = va; access = accesses.Store value })
 access_of (Fetch va) = Some (record { va = va; access = accesses.Fetch })
-access_of (Amo at amo) = Some (record { va = word_at (size amo) at; access = accesses.Amo at amo })
+access_of (Amo at amo) = Some (record { va = word_at (amo_size amo) at; access = accesses.Amo at amo })
 access_of op = None
 
 -- the entry that an operation used, if it is an access

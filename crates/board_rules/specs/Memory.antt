@@ -1,7 +1,7 @@
 -- The memory, satp, and the harts' caches (Privileged 4.1.11, 4.2, 4.3; Zifencei).
 use Rattle.std.specs.Prelude.{ℕ, List, [], ◌∷◌, Bool, if◌then◌else◌, Option, Some, None, option_map, unwrap_or}
 use Rattle.amo.specs.declared.amo.Amo.{Amo}
-use Rattle.amo.specs.Amos.{new_word, size}
+use Rattle.amo.specs.Amos.{new_word, amo_size}
 use Rattle.amo.specs.Parts.{word_at}
 use Rattle.sbi_abi.specs.declared.reset.Reset.{Reset}
 use Rattle.rfence.specs.Applied.{Effect, Nothing, Drops, Empties, effect}
@@ -75,7 +75,7 @@ zeroed_by (Some reset) = if is_cold reset.kind then Some Zeroed else None
 
 -- what an AMO writes, by the entry that it used
 abbrev pub changed_by : (at : ℕ) → Amo → Option Entry → Writing
-changed_by at amo used = Changed (record { word = phys_at used (word_at (size amo) at); at = at; amo = amo })
+changed_by at amo used = Changed (record { word = phys_at used (word_at (amo_size amo) at); at = at; amo = amo })
 
 -- A store that is Done writes its word at its physical address. An AMO writes its word if it gave the old value, or is
 -- Done.
@@ -127,7 +127,7 @@ abbrev pub entry_filling : Op → (used : Option Entry) → (satp : ℕ) → (hi
 entry_filling (ops.Load va) used satp hit = filling_of (hit (address_by satp va)) used
 entry_filling (ops.Store va value) used satp hit = filling_of (hit (address_by satp va)) used
 entry_filling (ops.Fetch va) used satp hit = filling_of (hit (address_by satp va)) used
-entry_filling (ops.Amo at amo) used satp hit = filling_of (hit (address_by satp (word_at (size amo) at))) used
+entry_filling (ops.Amo at amo) used satp hit = filling_of (hit (address_by satp (word_at (amo_size amo) at))) used
 entry_filling op used satp hit = None
 
 -- What happened to a hart's TLB since the opening, newest first: one act for each event.

@@ -2,7 +2,7 @@
 -- number, if it isn't a call's, and the opaque value of an entry. Private: an event's clauses name only the record of
 -- four.
 use Rattle.std.specs.Prelude.{◌≡◌, ℕ, Option, None, if◌then◌else◌, nat_lt}
-use Rattle.amo.specs.Names.{first_number, made_of, name_of, second_number}
+use Rattle.amo.specs.Names.{amo_first, made_of, amo_name, amo_second}
 use Rattle.tlb_model.specs.Entries.{Entry}
 use Rattle.board_terms.specs.declared.op.Actor.{Actor}
 use Rattle.board_terms.specs.declared.op.Actor.TheVariants.{Hart, Clock}
@@ -62,7 +62,7 @@ what_of head (ops.Load va) used first opaque = kept.Load head va first used
 what_of head (ops.Store va value) used first opaque = kept.Store head va value used
 what_of head (ops.Fetch va) used first opaque = kept.Fetch head va first used
 what_of head (ops.Amo at amo) used first opaque =
-    kept.Amo head (name_of amo) at (first_number amo) (second_number amo) first used
+    kept.Amo head (amo_name amo) at (amo_first amo) (amo_second amo) first used
 what_of head (ops.WriteSatp value) used first opaque = kept.WriteSatp head value
 what_of head (ops.WriteSie value) used first opaque = kept.WriteSie head value
 what_of head (ops.WriteSstatusSie value) used first opaque = kept.WriteSstatusSie head value
