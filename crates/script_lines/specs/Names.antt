@@ -7,7 +7,7 @@ use Rattle.std.specs.Str.{bytes_eq}
 use Rattle.amo.specs.declared.function.AmoFunction.TheVariants as functions
 use Rattle.amo.specs.declared.name.AmoName.{AmoName}
 use Rattle.amo.specs.declared.name.AmoName.TheVariants as amos
-use Rattle.amo.specs.Names.{count, made_of, name_of as name_of_amo}
+use Rattle.amo.specs.Names.{count, made_of, amo_name}
 use Rattle.sbi_abi.specs.declared.call.Regs.{Regs}
 use Rattle.board_terms.specs.declared.op.Op.{Op}
 use Rattle.board_terms.specs.declared.op.Op.TheVariants as ops
@@ -218,7 +218,7 @@ name_of ops.ClearSsip = Clearssip
 name_of (ops.Sfence va asid) = Sfence
 name_of ops.FenceI = Fencei
 name_of ops.Wfi = Wfi
-name_of (ops.Amo at amo) = Amo (name_of_amo amo)
+name_of (ops.Amo at amo) = Amo (amo_name amo)
 name_of ops.Poll = Poll
 name_of ops.Serve = Serve
 name_of ops.Advance = Advance

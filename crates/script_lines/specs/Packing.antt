@@ -2,7 +2,7 @@
 use Rattle.std.specs.Prelude.{ℕ, suc, ◌<◌, true, false, ◌&&◌, if◌then◌else◌, ◌==◌, List, [], ◌∷◌, ◌++◌, take, length, slice_index_or, Option, Some, None}
 use Rattle.std.specs.Int.{w64, cast_signed, cast_unsigned}
 use Rattle.amo.specs.Amos.{numbers}
-use Rattle.amo.specs.Names.{made_of, name_of}
+use Rattle.amo.specs.Names.{amo_name, made_of}
 use Rattle.board_terms.specs.declared.op.Actor.{Actor}
 use Rattle.board_terms.specs.declared.op.Actor.TheVariants.{Hart, Clock}
 use Rattle.board_terms.specs.declared.op.Op.{Op}
@@ -53,7 +53,7 @@ shape_of (ops.Sfence None (Some asid)) = SfenceAsid
 shape_of (ops.Sfence (Some va) (Some asid)) = SfenceBoth
 shape_of ops.FenceI = FenceI
 shape_of ops.Wfi = Wfi
-shape_of (ops.Amo at amo) = Amo (name_of amo)
+shape_of (ops.Amo at amo) = Amo (amo_name amo)
 shape_of ops.Poll = Poll
 shape_of ops.Serve = Serve
 shape_of ops.Advance = Advance
