@@ -5,7 +5,7 @@ use Rattle.std.proofs.lemmas.Bool.{cases_lt}
 use Rattle.std.proofs.lemmas.List.{length-replicate, length-set}
 use Rattle.amo.specs.declared.amo.Amo.{Amo as AnAmo}
 use Rattle.amo.specs.Amos.{new_word, amo_size}
-use Rattle.amo.specs.Parts.{word_at}
+use Rattle.amo.specs.Parts.{word_at as around}
 use Rattle.sbi_abi.specs.declared.reset.Reset.{Reset}
 use Rattle.sv39.specs.declared.cause.Cause.{Cause}
 use Rattle.sv39.specs.declared.cause.Kind.{Kind}
@@ -112,7 +112,7 @@ module _ (o : Opening) (past : List Event) (has : HasRam o.config.pages (memory 
       → answer o past (Hart x) (Amo at amo) ≡ Ok r → translation ≡ used_by_actor o past (Hart x) (Amo at amo)
       → HasRam o.config.pages (written_by o.config (Some (changed_by at amo translation)) (memory o past))
   amo-after x at amo r translation well answered is =
-      let va = word_at (amo_size amo) at in
+      let va = around (amo_size amo) at in
       let what = accesses.Amo at amo in
       let replied = (accepted (is_off o past) (nat_le o.config.harts x) (situation o past x) (Amo at amo) (is_full o past) (reply o past x (Amo at amo)) r answered).1 in
       let found = changed-at (memory o past) (cached o past x) (whole.place (memory o past) (satp o past x) (hit o past x) va what) at amo r well replied in
