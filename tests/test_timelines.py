@@ -51,12 +51,37 @@ def must_be_told_stale(path, data):
     must(f"{path}: told as stale are the lines {told}, and marked {marked}; {shown(found.stdout)}", told == marked)
 
 
+# Steps, and the word that each has in a picture.
+WORDS = (
+    ("0 advance", ""), ("0 ecall 0x48534d 0 1 0x80000000 0", "start"), ("1 advance", ""), ("0 ecall 0x48534d 2 1", "status"), ("0 ecall 0x735049 0 2 0", "ipi"), ("1 sip", "sip"), ("1 clearssip", "clearssip"),
+    ("0 ecall 0x52464e43 0 2 0", "fence.i"), ("1 serve", "serve"), ("0 poll", "poll"), ("0 ecall 0x52464e43 1 2 0", "fence"), ("1 serve", "serve"), ("0 poll", "poll"), ("0 ecall 0x52464e43 2 2 0", "fence"), ("1 serve", "serve"),
+    ("0 poll", "poll"), ("0 ecall 0x10 0", "call"), ("0 ecall 0x54494d45 0 5", "call"), ("0 store 0x80000000 0x7", "store 0x7"), ("0 store 0x80000008 0x10000", "store"), ("1 load 0x80000000", "load 0x7"), ("1 load 0x1000", "load"),
+    ("1 fetch 0x80000008", "fetch 0x10000"), ("1 sie 2", "sie"), ("1 fencei", "fencei"), ("1 sfence - -", "sfence"), ("c tick 1", "tick"), ("1 ecall 0x48534d 3 0 0", "suspend"), ("0 ecall 0x53525354 0 1 0", "reset"),
+    ("0 advance", ""), ("0 ecall 0x48534d 1", "stop"),
+)  # fmt: skip
+
+
 def picture(room):
     """The picture of the README is the one that the tool makes, and a long file has none."""
     made, _ = tool([TIMELINE, "--svg", os.path.join(EXAMPLES, "forgotten-hart.sched")])
     must("docs/forgotten-hart.svg isn't what tools/timeline --svg examples/forgotten-hart.sched prints", made == open(PICTURE, "rb").read())
     part, _ = tool([TIMELINE, "--svg", "--steps", "4-9", os.path.join(EXAMPLES, "forgotten-hart.sched")])
     must("a picture of six steps has other ones", part.count(b'text-anchor="middle"') == 6 and b'viewBox="0 0 458 192"' in part)
+    # (each call has its own word)
+    found = tool([TIMELINE, "--svg", script(room, ("board 2 1 100 0 0x80000000 0\n" + "".join(f"{it}\n" for it, _ in WORDS)).encode())])[0].decode()
+    words = re.findall(r'text-anchor="middle">([^<]*)</text>', found)
+    must(f"the steps are named {words}", words == [word or "&#8226;" for _, word in WORDS])
+    # (a part has the arrows and the marks of its own steps)
+    whole, _ = data_of(tool([TIMELINE, os.path.join(EXAMPLES, "forgotten-hart.sched")])[0])
+    last, seen = len(whole["actors"]) - 1, set()
+    for first, behind in ((0, last), (4, 9), (0, 3), (2, 17), (16, last), (19, last), (20, 20), (23, last), (last, last)):
+        part = tool([TIMELINE, "--svg", "--steps", f"{first}-{behind}", os.path.join(EXAMPLES, "forgotten-hart.sched")])[0].decode()
+        arrows = sum(first <= a and b <= behind for a, _, b, _, _ in whole["arrows"])
+        stale = sum(first <= it <= behind for it in whole["stale"])
+        marks, named = part.count('fill="none" stroke="#b00020"'), part.count(">stale</text>")
+        must(f"steps {first} to {behind}: {part.count('marker-end=')} arrows, {marks} marks", (part.count("marker-end="), marks, named) == (arrows, stale + bool(stale), int(bool(stale))))
+        seen |= {(bool(arrows), bool(stale))}
+    must(f"{seen}", len(seen) == 4)
     for words, said in ((["--svg"], b"are too many for a picture"), (["--svg", "--steps", "0-99999"], b"it has the steps 0-"), (["--svg", "--steps", "9-8"], b"it has the steps 0-")):
         must(f"{words}: another fault is told", said in tool([TIMELINE, *words, record("kernel")], 1)[1])
     tool([TIMELINE, "--svg", "--steps", "8", record("kernel")], 2)
@@ -312,6 +337,9 @@ c tick 5
         must("120 steps", printed_by([TIMELINE, "--svg", steps(120)])[0].count("<text ") > 120)
         _, said = printed_by([TIMELINE, "--svg", steps(121)], 1)
         must(said, said.endswith(": 121 steps are too many for a picture: at most 120\n"))
+        for chosen, is_there in (("0-119", True), ("119-119", True), ("0-0", True), ("0-120", False), ("120-120", False), ("5-4", False)):
+            out, said = printed_by([TIMELINE, "--svg", "--steps", chosen, steps(120)], 0 if is_there else 1)
+            must(f"{chosen}: {said}", bool(out) == is_there and said.endswith("" if is_there else ": it has the steps 0-119\n"))
         must("a page of 121 steps", len(of_one(dict(Parts(printed_by([TIMELINE, steps(121)])[0]).all_of("script"))["data"])["actors"]) == 121)
         for words, status in (([], 2), (["--fly", path], 2), ([path, path, path], 2), (["--svg", path, path], 2), ([os.path.join(self.room, "none")], 1), ([path, self.room], 1)):
             out, said = printed_by([TIMELINE, *words], status)

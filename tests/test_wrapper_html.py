@@ -101,6 +101,12 @@ class HtmlPages(Test):
             listed = rows(os.path.join(folder, "index.html"))
             failing = re.findall(r"^not ok \d+ - (.*)$", out, re.M)
             drawn = [it for it in listed if it[0]]
+            blocks = re.findall(r"(?m)^not ok \d+ - .*\n(?:  ---\n((?:.*\n)*?)  \.\.\.\n)?", out)
+            counts = [re.search(r"  failing: (\d+)\n  orders: (\d+)\n", it) for it in blocks]
+            records = [re.search(r'  record: "(.*)"\n', it) for it in blocks]
+            wanted = [(f"{count[1]} of {count[2]}" if count else "", record[1] if record else "") for count, record in zip(counts, records)]
+            must(f"{words}: {listed}, and not {wanted}", [(it[2], it[3]) for it in listed] == wanted and any(records))
+            must(f"{words}: {wanted}", "--times" not in words or any(it and it[1] != it[2] for it in counts))
             must(f"{words}: {listed}", [it[1] for it in listed] == failing and said == f"sbiboard: {folder}/index.html lists the points that fail ({len(listed)}, and {len(drawn)} drawn)\n")
             must(f"{words}: {os.listdir(folder)}", sorted(os.listdir(folder)) == sorted([*(f"{it[0][0]}.html" for it in drawn), "index.html"]) and len(drawn) >= len(files))
             for page, point, *_ in drawn:
@@ -162,6 +168,7 @@ class HtmlPages(Test):
         for words, status, many in ((["--times", "0", "lost-wakeup.program"], 8, 2), (["--failed", "none", "a.sched"], 7, 1)):
             found = self.called("test", "--html", "pages", *words)
             listed = rows(os.path.join(self.work, "pages/index.html"))
+            must(f"{words}: another count", f"<h1>Points that fail: {many}</h1>" in read(os.path.join(self.work, "pages/index.html")))
             must(f"{words}: {found}, {listed}", found[0] == status and len(listed) == many and f"pages/index.html lists the points that fail ({many}, and 0 drawn)\n" in found[2])
 
     def test_html__older_points(self):
