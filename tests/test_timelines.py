@@ -214,6 +214,34 @@ def must_be_wanted(data, told, wanted):
         must(f"hart {hart} is drawn as {shades}", shades == [it[hart] for it in wanted.shades] and lane[0][0] == 0)
 
 
+# The words of calls in a page.
+CALLS = {
+    0x48534D: ("start", "stop", "status", "suspend"), 0x735049: ("ipi",), 0x52464E43: ("fence.i", "fence", "fence"), 0x54494D45: ("timer",), 0x53525354: ("reset",),
+}  # fmt: skip
+
+
+def word_of(words):
+    """The word that a page has of a step."""
+    return dict(enumerate(CALLS.get(int(words[2], 0), ()))).get(int(words[3], 0), "call") if words[1] == "ecall" else words[1]
+
+
+def must_draw_marks(drawn, wanted, data, x, near):
+    """Arrows lead from lane to lane in the colour of their kind; a reset is a bar across all lanes; what is stale, or answered otherwise, is marked; steps have numbers from 1."""
+    lane, tops = drawn["lane"], drawn["tops"]
+    for a, h, b, t, kind in data["arrows"]:
+        ends = (x(a + 0.5), tops[h + 1] + (lane if t > h else 0), x(b + 0.5), tops[t + 1] + (0 if t > h else lane))
+        must(f"the arrow {a} {h} {b} {t} is not drawn in {drawn['lines']}", any(all(map(near, it, ends)) and it[4] == data["kindColours"][kind] for it in drawn["lines"]))
+    bars = [it for it in drawn["rects"] if it[2] == 3 and it[4] == "#b00020"]
+    must(f"the resets {data['resets']} are drawn as {bars}", [near(it[0] + 1.5, x(place + 0.5)) and it[1] == tops[0] and it[3] > tops[-1] - tops[0] for it, place in zip(bars, data["resets"], strict=True)] == [True] * len(bars))
+    for places, colour in ((data["stale"], "#d00020"), (sorted({*data["other"]} - {*data["stale"]}), "#e07000")):
+        marks = sorted(([it[0] + it[2] / 2, it[1]] for it in drawn["rects"] if it[4] == colour), key=lambda it: it[0])
+        must(f"the marks of {places} are {marks}", len(marks) == len(places) and all(near(it[0], x(place + 0.5)) and it[1] == tops[wanted.actors[place] + 1] - 3 for it, place in zip(marks, places)))
+    numbers = [(int(text), at) for text, at, y in drawn["words"] if y == 12]
+    must(f"the steps have the numbers {numbers}", len(numbers) > 5 and all(near(at + 8, x(number - 0.5)) for number, at in numbers))
+    counts = [f"{len(data[name])} {said}" for name, said in (("stale", "stale"), ("other", "where the board does otherwise")) if data[name]]
+    must(f"the key is {drawn['keys']}, and not {counts}", [it for it in drawn["keys"] if it.endswith((" stale", " otherwise"))] == counts and len(data["arrows"]) == len(drawn["lines"]) > 2)
+
+
 def must_draw(drawn, wanted, data):
     x = lambda place: drawn["lefts"] + place * drawn["per"]
     near = lambda one, other: abs(one - other) < 1.5
@@ -223,10 +251,11 @@ def must_draw(drawn, wanted, data):
             must(f"hart {hart} is not drawn as {data['names'][shade]} from step {first} to {last}", any(is_one(it) and it[4] == data["colours"][shade] for it in drawn["rects"]))
     for place, actor in enumerate(wanted.actors):
         top = drawn["tops"][actor + 1]
-        is_one = lambda it: near(it[1], x(place + 0.5)) and top <= it[2] <= top + drawn["lane"] and not it[0].startswith(("hart", "clock"))
+        is_one = lambda it, word=word_of(wanted.texts[place].split(" ")): near(it[1], x(place + 0.5)) and top <= it[2] <= top + drawn["lane"] and it[0] == word
         must(f"step {place} has no word in the lane of {actor}: {wanted.texts[place]}", any(is_one(it) for it in drawn["words"]))
     times = [[place, word] for place, word in wanted.times if not any(it[0] == "0x" + word for it in drawn["words"])]
     must(f"the times {times} are not drawn", not times)
+    must_draw_marks(drawn, wanted, data, x, near)
     heads = [["clock" if not at else f"hart {at - 1}", top] for at, top in enumerate(drawn["tops"])]
     must("the lanes have other names", all(any(it[0] == name and top < it[2] < top + drawn["lane"] for it in drawn["words"]) for name, top in heads))
 

@@ -244,6 +244,15 @@ def both(page):
     return json.loads(scripts["data"]), scripts["texts"].split("\n")
 
 
+# Steps of one hart, and what each changes of what a page shows of it. The last one switches the board off.
+SHOWN = (
+    ("0 advance", ["STARTED", "entered"]), ("0 sie 0x2", ["sie SSIE"]), ("0 sie 0x20", ["sie STIE"]), ("0 sie 0x22", ["sie SSIE+STIE"]), ("0 sie 0", ["sie 0"]), ("0 sip", []), ("0 ecall 0x735049 0 1 0", ["pending SSIP"]),
+    ("0 clearssip", ["SSIP 0"]), ("0 ecall 0x54494d45 0 5", ["deadline 0x5"]), ("c tick 5", ["pending STIP"]), ("0 ecall 0x54494d45 0 9", ["STIP 0", "deadline 0x9"]), ("0 sstatus 1", ["sstatus.SIE"]), ("0 sstatus 0", ["sstatus.SIE 0"]),
+    ("0 satp 0x8000000000080000", ["satp 0x8000000000080000"]), ("0 satp 0", ["satp 0"]), ("0 ecall 0x52464e43 0 1 0", ["in a fence call, waits for: none"]), ("0 poll", ["out of the fence call"]),
+    ("0 ecall 0x53525354 0 0 0", None),
+)  # fmt: skip
+
+
 class TimelinesBeside(Test):
     programs = ()
 
@@ -286,6 +295,17 @@ class TimelinesBeside(Test):
         asked = json.loads(printed_by(["node", DRAWN, path, "1400", "700", "16"])[0])["board"]
         must(f"{asked}", ["new", "fence from hart 0: sfence.vma of 0x1000 to 0x1fff, asked at step 16"] in asked[1] and ["new", "in a fence call, waits for: 1"] in asked[0])
         must("a word for each", {"from here on others", "forgotten-hart.sched", "mended <b>.sched"} <= {it[0] for it in shown["words"]})
+
+    def test_timelines__registers_that_a_page_shows(self):
+        """A page shows behind each step what it changed of a hart's registers, each by its own name, and whether the power is off."""
+        if shutil.which("node") is None:
+            raise SkipTest("node is missing")
+        path = write(os.path.join(self.room, "page.html"), printed_by([TIMELINE, script(self.room, "".join(f"{it}\n" for it in ("board 1 1 99 0 0x80000000 0", *(line for line, _ in SHOWN))).encode())])[0])
+        for step, (line, wanted) in enumerate(SHOWN, 1):
+            shown = json.loads(printed_by(["node", DRAWN, path, "1400", "700", str(step)])[0])
+            found = [text for kind, text in shown["board"][0] if kind == "new"]
+            must(f"{line}: {found}, and not {wanted}", wanted is None or found == wanted)
+            must(f"{line}: {shown['head']}", shown["head"].startswith(f"the board behind step {step}") and (", power off" in shown["head"]) == (step == len(SHOWN)))
 
     def test_timelines__two_in_a_browser(self):
         """A real browser shows two courses, with the board and the cause of the step at which the page opens."""
