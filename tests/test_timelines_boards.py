@@ -292,6 +292,16 @@ class TimelinesBeside(Test):
         stale = [text for kind, text in shown["board"][2] if kind == "stale"]
         must(f"{shown['board']}", [it[0][1] for it in shown["board"]] == ["hart 0", "hart 1", "hart 2"] and stale == ["translation 0x1000 to 0x80004000 rw-d (ASID 5), filled at step 14, STALE since step 15"])
         must(f"{shown['why']}", len(shown["why"]) == 4 and shown["why"][2].endswith("asked hart 1, not hart 2") and shown["why"][3].startswith("beside: 21  2 load 0x1000 -> value 0x22"))
+        # (a box is around each step whose answer is another one than beside)
+        data, texts = both(read(path))
+        first = len(data["courses"][0]["actors"])
+        answers = [it.partition("   # ")[0].partition(" -> ")[2] for it in texts]
+        answers, wanted = [answers[:first], answers[first:]], []
+        for index, course in enumerate(data["courses"]):
+            differing = [place for place, twin in enumerate(course["twins"]) if twin >= 0 and answers[index][place] != answers[1 - index][twin]]
+            wanted += [(shown["lefts"] + place * shown["per"] + 1, shown["tops"][index][course["actors"][place] + 1] - 1) for place in differing]
+        boxes = [it[:2] for it in shown["boxes"] if it[2] > 0 and it[4] == "#0050c0"]
+        must(f"the boxes are {boxes}, and not {wanted}", len(boxes) == len(wanted) >= 4 and all(any(abs(x - a) < 1.5 and y == b for x, y in boxes) for a, b in wanted))
         asked = json.loads(printed_by(["node", DRAWN, path, "1400", "700", "16"])[0])["board"]
         must(f"{asked}", ["new", "fence from hart 0: sfence.vma of 0x1000 to 0x1fff, asked at step 16"] in asked[1] and ["new", "in a fence call, waits for: 1"] in asked[0])
         must("a word for each", {"from here on others", "forgotten-hart.sched", "mended <b>.sched"} <= {it[0] for it in shown["words"]})
