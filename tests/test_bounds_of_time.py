@@ -185,9 +185,9 @@ class BoundsOfTime(Test):
         _, out, said = watched(self.room, "sbiboard explore", words, False, True)
         lines = must_be_taken_back(said)
         must(f"{lines}", all(re.fullmatch(r"\d+ states, \d+ that wait, \d+ a second", it) for it in lines) and out.startswith("TAP version 13\n"))
-        # (two harts that go side by side leave a line of states before them, no longer than one of them is)
+        # (of two harts side by side as many states wait as one had so far: of n states some root of 2 n)
         counts = [[int(word) for word in re.findall(r"\d+", it)] for it in lines]
-        must(f"{lines}", counts[-1][0] > 10_000 and all(0 < waiting < 7_000 for _, waiting, _ in counts) and all(one[0] <= other[0] for one, other in zip(counts, counts[1:])))
+        must(f"{lines}", all(0 < waits and waits**2 < 16 * states + 1_000 for states, waits, _ in counts) and counts == sorted(counts, key=lambda it: it[0]) and counts[-1][0] > 1_000)
 
     def test_no_progress_but_at_a_terminal(self):
         """Where standard error is no terminal, nothing goes there, also where standard output is one; and nothing is told of what is soon done."""

@@ -256,14 +256,14 @@ class EmptyVerdicts(Test):
     def must_tell_cut_runs(self):
         """Of runs on threads the point says how many the limit cut off: as many as are counted beside those of the seed's orders."""
         is_partly, cut_of = False, lambda lines: int(re.search(r"(\d+) history-full", next(it for it in lines if it.startswith("# ends: ")))[1])
-        for limit in range(14, 46):
+        for limit in range(14, 46, 2):
             text = "#! end off\n" + CUT.replace("board 2 2 7 ", f"board 2 2 {limit} ").replace("ecall 0x53525354", "sip\n" * 10 + "ecall 0x53525354") + "sip\n" * 26
-            _, _, lines = in_way(self.room, ("sbiboard", ("--times", "60")), text)
-            _, found, both = in_way(self.room, ("sbiboard", ("--times", "60", "--threads")), text)
+            _, _, lines = in_way(self.room, ("sbiboard", ("--times", "40")), text)
+            _, found, both = in_way(self.room, ("sbiboard", ("--times", "40", "--threads")), text)
             cut = cut_of(both) - cut_of(lines)
-            wanted = "no order ends: the limit cut off all 60" if cut == 60 else "holds in 60 runs on threads" + (f", of which the limit cut off {cut}" if cut else "")
+            wanted = "no order ends: the limit cut off all 40" if cut == 40 else "holds in 40 runs on threads" + (f", of which the limit cut off {cut}" if cut else "")
             must(f"{limit}: {both}", found[1].endswith(f": {wanted}"))
-            is_partly |= 0 < cut < 60
+            is_partly |= 0 < cut < 40
         if not is_partly:
             raise SkipTest("the threads of all runs go in one order here")
 

@@ -230,7 +230,7 @@ class Explore(Test):
         # (as many states as there are, of which each has an outcome or two: it is said where these are too many)
         _, lines = explored(self.room, MESSAGE_PASSING)
         states, outcomes, found = int(re.search(r"# states: (\d+)", "\n".join(lines))[1]), next(it for it in lines if it.startswith("# outcomes: ")), []
-        for most in range(states, 4 * states):
+        for most in (*range(states, 3 * states, states // 8 + 1), 10 * states):
             status, lines = explored(self.room, MESSAGE_PASSING, "--states", str(most))
             found.append([it for it in lines if it.startswith("# outcomes: ")])
             must(f"{most} states: status {status}, {lines}", status == 0 and found[-1] in ([outcomes], ["# outcomes: not told, there are too many states"]))
