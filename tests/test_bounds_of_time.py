@@ -168,7 +168,9 @@ class BoundsOfTime(Test):
         told(self.room, RACE, "--times", "1")
         write(os.path.join(self.room, "chain.program"), CHAIN)
         for words, name in (([*ENDLESS, "--seconds", "4", "race.program"], "orders"), (["--times", "3000", "--threads", "--seconds", "5", "chain.program"], "runs")):
+            begun = time.monotonic()
             _, out, said = watched(self.room, "sbiboard", words, False, True)
+            spent = time.monotonic() - begun
             if name == "runs" and " runs, " not in said:
                 raise SkipTest("orders take all the time here")
             must(f"{out}", out.startswith("TAP version 13\n"))
@@ -177,6 +179,8 @@ class BoundsOfTime(Test):
             for it in lines:
                 tried, of, rate, left = (int(it[place]) for place in (1, 2, 4, 5))
                 must(f"{it[0]}", of == int(words[1]) and left == (of - tried) // max(rate, 1) and tried <= of)
+                # (nothing is told in the first two seconds; runs are counted from their own first one on)
+                must(f"{it[0]}, of {spent:.1f} s", tried / spent - 1 <= rate <= tried / 2)
 
     def test_progress_of_a_look_is_told(self):
         """So is that of a look at all orders: how many states had their turn, and how many wait."""
