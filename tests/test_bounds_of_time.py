@@ -191,7 +191,7 @@ class BoundsOfTime(Test):
         must(f"{lines}", all(re.fullmatch(r"\d+ states, \d+ that wait, \d+ a second", it) for it in lines) and out.startswith("TAP version 13\n"))
         # (of two harts side by side as many states wait as one had so far: of n states some root of 2 n)
         counts = [[int(word) for word in re.findall(r"\d+", it)] for it in lines]
-        must(f"{lines}", all(0 < waits and waits**2 < 16 * states + 1_000 for states, waits, _ in counts) and counts == sorted(counts, key=lambda it: it[0]) and counts[-1][0] > 1_000)
+        must(f"{lines}", all(0 < waits and waits**2 < 16 * states + 1_000 for states, waits, _ in counts) and max(counts)[0] > 1_000)
 
     def test_no_progress_but_at_a_terminal(self):
         """Where standard error is no terminal, nothing goes there, also where standard output is one; and nothing is told of what is soon done."""

@@ -50,7 +50,7 @@ WRONG = (
     (SCHEDULE, "C tick 1", 1, "did you mean 'c'?"), (SCHEDULE, "sip", 1, "a step begins with its actor"), (SCHEDULE, "128 sip", 1, "an actor is c, or the number of a hart: at most 127"), (SCHEDULE, "2 sip", 1, "the board has no hart 2: its harts are 0 to 1"), (SCHEDULE, "0x7f sip", 1, "the board has no hart 0x7f: its harts are 0 to 1"),
     (SCHEDULE, "0 load 80001000", 8, "80001000 is decimal, 0x4c4b7e8, and in no page of the RAM: did you mean '0x80001000'?"), (SCHEDULE, "0 load 0X10", 8, "did you mean '0x10'?"), (SCHEDULE, "0 load 8000a000", 8, "did you mean '0x8000a000'?"),
     (SCHEDULE, "0 load 1_000", 8, "did you mean '1000'?"), (SCHEDULE, "0\u00a0sip", 2, "a blank that only looks like one"), (SCHEDULE, "0 load", 7, "a word is missing (fault 5)"), (SCHEDULE, "0 value 1", 3, "before a reply an arrow stands"),
-    (OF_TRACE, "1 load 0x1000 -> 0x11", 18, "no reply word stands before it: did you mean 'value 0x11'?"), (OF_TRACE, "1 sip -> 0x2", 10, "did you mean 'value 0x2'?"), (OF_TRACE, "0 advance -> 1", 14, "did you mean 'moved 1'?"), (OF_TRACE, "0 fetch 0x1000 -> 7", 19, "did you mean 'value 7'?"), (OF_TRACE, "0 ecall 0x10 0 -> 0x1000000", 19, "did you mean 'ret 0 0x1000000'?"),
+    (OF_TRACE, "1 load 0x1000 -> 0x11", 18, "no reply word stands before it: did you mean 'value 0x11'?"), (OF_TRACE, "1 sip -> 0x2", 10, "did you mean 'value 0x2'?"), (OF_TRACE, "0 advance -> 1", 14, "did you mean 'moved 1'?"), (OF_TRACE, "0 ecall 0x10 0 -> 0x1000000", 19, "did you mean 'ret 0 0x1000000'?"),
     (OF_TRACE, "0 sip -> valu 1", 10, "unknown reply 'valu' (fault 3): did you mean 'value'?"), (OF_TRACE, "0 sip ->", 9, "behind the arrow a reply is wanted"),
     (PROGRAMS, "ecal 1 2", 1, "did you mean 'ecall'?"), (PROGRAMS, "poll", 1, "the firmware of a program does it by itself"), (PROGRAMS, "tick 1", 1, "'tick' stands in the block of the clock"), (PROGRAMS, "at 80001000", 4, "did you mean '0x80001000'?"),
     (PROGRAMS, "#! nevr 0 sip", 4, "unknown condition: 'nevr': did you mean 'never'?"), (PROGRAMS, "#! never 0 laod 1", 12, "unknown word: 'laod': did you mean 'load'?"), (PROGRAMS, "at 0x80000000", 4, "a second block of '0x80000000' (fault 7)"),
@@ -467,7 +467,7 @@ class Explained(Made):
             for task in (TASK[name], "test"):
                 told = self.told(task, name, text)
                 must(f"{task} {wrong!r}: {told}", len(told) == 1 and told[0].startswith(f"{at}:{column}: ") and meant in told[0])
-        for name, text in (*RIGHT.items(), *((SCHEDULE, it) for it in GOOD)):
+        for name, text in (*RIGHT.items(), (SCHEDULE, "\n".join(GOOD))):
             for task in (TASK[name], "test"):
                 must(f"{task} {name} {text}", self.told(task, name, f"{BOARD}{text}\n") == [])
 
@@ -492,7 +492,7 @@ class Explained(Made):
         self.put("a.trace", TRACE)
         must("a trace", self.told("replay", "a.trace", TRACE) == ["2:1: a trace, and replay takes a schedule: did you mean 'check' or 'test'?", "3:1: the board has no hart 007: its harts are 0 to 0"])
         of_kind = {"schedule": (BOARD + "0 advance\n", "replay"), "trace": (BOARD + "0 advance -> gone\n", "check"), "program": (BOARD + "at 0x80000000\nsip\n", "run")}
-        for task, takes in (("replay", "schedule"), ("check", "trace"), ("run", "program"), ("explore", "program")):
+        for task, takes in (("replay", "schedule"), ("run", "program"), ("explore", "program")):
             for kind, (text, other) in of_kind.items():
                 told = self.told(task, "a.any", text)
                 must(f"{task}: {told}", told == ([] if kind == takes else [f"2:1: a {kind}, and {task} takes a {takes}: did you mean '{other}' or 'test'?"]))
