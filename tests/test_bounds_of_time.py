@@ -168,7 +168,9 @@ class BoundsOfTime(Test):
         told(self.room, RACE, "--times", "1")
         write(os.path.join(self.room, "chain.program"), CHAIN)
         for words, name in (([*ENDLESS, "--seconds", "4", "race.program"], "orders"), (["--times", "3000", "--threads", "--seconds", "5", "chain.program"], "runs")):
+            begun = time.monotonic()
             _, out, said = watched(self.room, "sbiboard", words, False, True)
+            spent = time.monotonic() - begun
             if name == "runs" and " runs, " not in said:
                 raise SkipTest("orders take all the time here")
             must(f"{out}", out.startswith("TAP version 13\n"))
@@ -177,6 +179,8 @@ class BoundsOfTime(Test):
             for it in lines:
                 tried, of, rate, left = (int(it[place]) for place in (1, 2, 4, 5))
                 must(f"{it[0]}", of == int(words[1]) and left == (of - tried) // max(rate, 1) and tried <= of)
+                # (nothing is told in the first two seconds; runs are counted from their own first one on)
+                must(f"{it[0]}, of {spent:.1f} s", tried / spent - 1 <= rate <= tried / 2)
 
     def test_progress_of_a_look_is_told(self):
         """So is that of a look at all orders: how many states had their turn, and how many wait."""
@@ -185,6 +189,9 @@ class BoundsOfTime(Test):
         _, out, said = watched(self.room, "sbiboard explore", words, False, True)
         lines = must_be_taken_back(said)
         must(f"{lines}", all(re.fullmatch(r"\d+ states, \d+ that wait, \d+ a second", it) for it in lines) and out.startswith("TAP version 13\n"))
+        # (of two harts side by side as many states wait as one had so far: of n states some root of 2 n)
+        counts = [[int(word) for word in re.findall(r"\d+", it)] for it in lines]
+        must(f"{lines}", all(0 < waits and waits**2 < 16 * states + 1_000 for states, waits, _ in counts) and max(counts)[0] > 1_000)
 
     def test_no_progress_but_at_a_terminal(self):
         """Where standard error is no terminal, nothing goes there, also where standard output is one; and nothing is told of what is soon done."""

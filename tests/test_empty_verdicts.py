@@ -2,6 +2,9 @@
 script can't mean. Each is red, in `test` by all orders and by those of a seed, and in `explore`."""
 import os
 import re
+from unittest import SkipTest
+
+from board_model import spelled_step, step_of
 
 from . import all_orders
 from .fixtures import EXAMPLES, PROGRAM, TESTER, Test, explored, must, read, tester, told, told_of, write
@@ -41,6 +44,14 @@ VACUOUS = (
     ("never 1 load 0x80002000 -> value 9", None, None), ("never 1 load -> value 9 after 0 poll -> ret 0 _", None, None), ("before 0 advance, 1 load 0x80002000 -> value 7", None, None),
     ("each 0 store -> done", None, None), ("some 1 load 0x80002000 -> value 1", None, None), ("never 1 load 0x80005008 after 0 poll -> ret 0", None, None),
 )  # fmt: skip
+
+# Each operation that has numbers, with what is said of who does it, and a step like it that there isn't.
+DONE = (
+    ("writes satp", "satp 0x0"), ("writes sie", "sie 0x2"), ("writes sstatus", "sstatus 1"), ("does sfence", "sfence 0x1000 5"), ("loads", "load 0x80000000"), ("stores", "store 0x80000000 0x7"),
+    ("fetches", "fetch 0x80000000"), ("calls", "ecall 0x10 0x3 0x10 0x0 0x0 0x0 0x0 0x0"), ("ticks", "tick 0x5"),
+)  # fmt: skip
+ANOTHER = {"sstatus": "sstatus 0"}
+DOES_ALL = "".join(f"{it}\n" for it in ("board 1 2 200 0 0x80000000 0x0", "at 0x80000000", *(op for _, op in DONE[:-1]), "clock", DONE[-1][1]))
 
 # Words of `sbiboard` that look in another way, and what is said of a missing step there.
 WAYS = (("sbiboard", (), ""), ("sbiboard", SEEDS, " in the 40 orders tried"), ("sbiboard explore", (), ""))
@@ -106,6 +117,13 @@ class EmptyVerdicts(Test):
                 status, found, lines = in_way(self.room, way, f"#! maybe {asked}\n{LOADS}")
                 is_some = asked.startswith("some")
                 must(f"{way}: maybe {asked}: {found}", status == (1 if is_some else 0) and "vacuous" not in found[0] and "# line 1: never met: no step has this actor and operation" in lines)
+            for line, (does, op) in enumerate(DONE, 3):
+                actor, asked = "c" if op.startswith("tick") else "0", ANOTHER.get(op.split()[0], " ".join([op.split()[0], "0x44"]))
+                numbers = spelled_step(*step_of(f"{actor} {op}".split())).split(" ", 2)[2]
+                who, where = ("the clock", "") if actor == "c" else ("hart 0", f" (line {line})")
+                _, found, _ = in_way(self.room, way, f"{DOES_ALL}#! before {actor} {asked}, 0 wfi\n")
+                wanted = f": {NEEDED.format(f'{actor} {asked}')}{way[2]}; {who} {does} {numbers}{where}"
+                must(f"{way}: {found}, and not {wanted!r}", len(found) == 1 and found[0].startswith("not ok ") and found[0].endswith(wanted))
 
     def test_vacuous_conditions_are_red_on_threads(self):
         """So it is of runs on threads."""
@@ -147,7 +165,7 @@ class EmptyVerdicts(Test):
     def test_what_was_not_judged_is_no_success(self):
         """Where nothing was judged, the point is `not ok` without a directive, also at a terminal, and the status is 8; 1 where another point fails."""
         text = "#! end quiet\n" + RACE
-        for words, why in ((["--seconds", "0"], "no time"), (["--times", "0"], "no order tried"), (["--order", "3", "--seconds", "0"], "no time"), (["--times", "0", "--threads"], "no order tried")):
+        for words, why in ((["--seconds", "0"], "no time"), (["--times", "0"], "no order tried"), (["--order", "3", "--seconds", "0"], "no time"), (["--times", "0", "--threads"], "no order tried"), *((["--times", str(1 << bits), "--seconds", "0"], "no time") for bits in (31, 32, 63))):
             status, lines = told(self.room, text, *words)
             wanted = f"not ok 1 - race.program: line 1: end quiet: not judged: {why}"
             must(f"{words}: {status}, {lines}", status == 8 and wanted in lines and not any(re.search("# *(SKIP|TODO)", it) for it in lines) and "# 1 points, 0 failed, 1 not judged" in lines)
@@ -179,6 +197,10 @@ class EmptyVerdicts(Test):
             must(f"{name} {words} {asked}: {shown}, and not {wanted}", [it for it in shown.splitlines() if it.startswith(("ok ", "FAIL ", "OPEN "))] == wanted and wanted)
             seen |= {re.sub(r".*: (vacuous|no order ends|the board has no|not judged|holds|fails|bad|only|no board).*", r"\1", it) for it in wanted}
         must(f"{seen}", {"vacuous", "no order ends", "the board has no", "not judged", "holds", "fails"} <= seen)
+        # (a control character of a name would be one of the terminal's)
+        write(os.path.join(self.room, "a\x1b[2Jb\tc\x9bd.program"), RACE)
+        _, shown, _ = watched(self.room, "sbiboard", ["a\x1b[2Jb\tc\x9bd.program"], True, False)
+        must(f"{shown!r}", shown.startswith("ok    a?[2Jb?c?d.program: no order ends stuck: holds in all orders: 4\n"))
 
     def test_each_point_says_how_far_it_looked(self):
         """`test` says of each point at how many orders it looked."""
@@ -222,6 +244,7 @@ class EmptyVerdicts(Test):
         must(f"{found}", found == [f"ok line 1: end off: holds in {reach}, of which the limit cut off {cut}", f"ok line 2: end off history-full: holds in {reach}", f"ok line 3: some 0 advance: holds in some of {reach}"])
         _, found, _ = in_way(self.room, ("sbiboard", ("--times", "300")), CUT)
         must(f"{found}", found == [f"ok no order ends stuck: holds in {reach}, of which the limit cut off {cut}"])
+        self.must_tell_cut_runs()
         short = re.sub(r"^(board \S+ \S+) \S+", r"\1 2", RACE)
         for words, said in ((["--times", "9"], ["9"]), (["--times", "4", "--threads"], ["4", "4"])):
             for asked in ("", "#! end quiet\n"):
@@ -229,6 +252,20 @@ class EmptyVerdicts(Test):
                 must(f"{found}", status == 1 and [it.rpartition(": ")[2] for it in found] == [f"the limit cut off all {many}" for many in said])
             status, found, _ = in_way(self.room, ("sbiboard", words), "#! end history-full\n#! maybe end quiet\n" + short)
             must(f"{found}", status == 0)
+
+    def must_tell_cut_runs(self):
+        """Of runs on threads the point says how many the limit cut off: as many as are counted beside those of the seed's orders."""
+        is_partly, cut_of = False, lambda lines: int(re.search(r"(\d+) history-full", next(it for it in lines if it.startswith("# ends: ")))[1])
+        for limit in range(14, 46, 2):
+            text = "#! end off\n" + CUT.replace("board 2 2 7 ", f"board 2 2 {limit} ").replace("ecall 0x53525354", "sip\n" * 10 + "ecall 0x53525354") + "sip\n" * 26
+            _, _, lines = in_way(self.room, ("sbiboard", ("--times", "40")), text)
+            _, found, both = in_way(self.room, ("sbiboard", ("--times", "40", "--threads")), text)
+            cut = cut_of(both) - cut_of(lines)
+            wanted = "no order ends: the limit cut off all 40" if cut == 40 else "holds in 40 runs on threads" + (f", of which the limit cut off {cut}" if cut else "")
+            must(f"{limit}: {both}", found[1].endswith(f": {wanted}"))
+            is_partly |= 0 < cut < 40
+        if not is_partly:
+            raise SkipTest("the threads of all runs go in one order here")
 
     def test_words_that_no_step_of_the_board_has_are_red(self):
         """A condition about a hart that the board hasn't, or with a number that its place can't hold, is `not ok`, whatever is tested."""
@@ -251,6 +288,12 @@ class EmptyVerdicts(Test):
                 status, found, _ = in_way(self.room, way, f"{sign}\n#! some 0 advance\n{RACE}")
                 word = sign.replace("!", " ").split()[1]
                 must(f"{sign}: {found}", status == 1 and found[-1] == f"not ok line 1: '\\# !{word}' is a comment, and no condition" and len(found) == 2)
+        # (each of several is told, wherever it stands)
+        for way in WAYS:
+            status, found, _ = in_way(self.room, way, f"# !end off\n#! some 0 advance\n# ! each 0 sip\n{RACE}\n#\t!never 0 store\n# !end off\n")
+            lines = RACE.count("\n") + 5, RACE.count("\n") + 6
+            wanted = [f"not ok line {line}: '\\# !{word}' is a comment, and no condition" for line, word in ((1, "end"), (3, "each"), (lines[0], "never"), (lines[1], "end"))]
+            must(f"{found}, and not {wanted}", status == 1 and found[1:] == wanted)
         for sign in ("# ! important", "# never 1 load", "# it is !never so", "#!/usr/bin/env never", "# !", "#", "## !never 1 load"):
             status, found, _ = in_way(self.room, WAYS[0], f"{sign}\n{RACE}")
             must(f"{sign}: {found}", status == 0 and len(found) == 1)

@@ -217,6 +217,8 @@ class Explore(Test):
         must(f"no time: status {status}, {lines}", status == 8 and "# not all orders were seen: 1 states, 0 steps" in lines and not any(it.startswith("# orders: ") for it in lines))
         status, lines = explored(self.room, LOADS_AND_STORES)
         must(f"status {status}, {lines}", status == 0 and lines[-3:] == ["1..1", "# 1 points, 0 failed", "# 1 files"])
+        for most in ((1 << 31) - 1, 1 << 32, (1 << 32) + 5, 1 << 63, (1 << 64) - 1):
+            must(f"{most} states", explored(self.room, LOADS_AND_STORES, "--states", str(most)) == (status, lines))
         status, lines = explored(self.room, "board 1 1 10 0 0x80000000 0\n0 advance\n")
         must(f"status {status}, {lines}", status == 1 and lines[1] == "not ok 1 - a.program: only a program has orders")
         status, lines = explored(self.room, "boar\n")
@@ -225,6 +227,14 @@ class Explore(Test):
         for most, wanted in (("2", 8), ("3", 0)):
             status, lines = explored(self.room, "board 1 1 10 0 0x80000000 0\nat 0x80000000\nload 0x80000000\n", "--states", most)
             must(f"{most} states: status {status}, {lines}", status == wanted and ("# outcomes: 1" in lines) == (wanted == 0))
+        # (as many states as there are, of which each has an outcome or two: it is said where these are too many)
+        _, lines = explored(self.room, MESSAGE_PASSING)
+        states, outcomes, found = int(re.search(r"# states: (\d+)", "\n".join(lines))[1]), next(it for it in lines if it.startswith("# outcomes: ")), []
+        for most in (*range(states, 3 * states, states // 8 + 1), 10 * states):
+            status, lines = explored(self.room, MESSAGE_PASSING, "--states", str(most))
+            found.append([it for it in lines if it.startswith("# outcomes: ")])
+            must(f"{most} states: status {status}, {lines}", status == 0 and found[-1] in ([outcomes], ["# outcomes: not told, there are too many states"]))
+        must(f"{found}", found[0] != [outcomes] and found[-1] == [outcomes] and found == sorted(found, key=lambda it: it == [outcomes]))
 
     def test_help_of_explore_is_stored(self):
         """The help that the script has before the program is built is the program's own."""

@@ -15,6 +15,9 @@ FLAGS = (["--times", "1000"], ["--times=7"], ["--seed", "0"], ["--seed", "9"], [
 
 OTHERS = (["--jobs", "1"], ["--jobs", "9"], ["--failed", "."], ["--tap", "points.tap"], ["--seconds", "100"], ["--seconds", "100", "--jobs", "2"])
 
+# A program of one order, which switches the board off.
+OFF = "board 1 1 50 0 0x80000000 0\nat 0x80000000\necall 0x53525354 0 0 0\n"
+
 # Random programs that are looked at, and how many states of theirs at most.
 RANDOM, MOST = 30, FEW
 
@@ -220,7 +223,7 @@ class FewStates(Test):
 
     def test_summaries_of_few_states_and_many(self):
         """The summary tells orders that were tried, and programs of which all were seen, apart."""
-        files = {"few.program": LOADS_AND_STORES, "wake.program": WAKE, "many.program": MANY, "endless.program": REBOOTS, "a.sched": "board 1 1 10 0 0x80000000 0\n0 advance\n"}
+        files = {"few.program": LOADS_AND_STORES, "wake.program": WAKE, "many.program": MANY, "endless.program": REBOOTS, "off.program": OFF, "a.sched": "board 1 1 10 0 0x80000000 0\n0 advance\n"}
         for name, text in files.items():
             write(os.path.join(self.room, name), text)
         ends = all_orders.Orders(WAKE).ends
@@ -228,6 +231,8 @@ class FewStates(Test):
         for names, status, wanted in (
             (["few.program"], 0, "# 1 files;# all orders of 1 programs: 35, quiet 35"),
             (["few.program", "wake.program"], 1, f"# 2 files;# all orders of 2 programs: 41, quiet {35 + ends['quiet']}, stuck {ends['stuck']}"),
+            (["off.program"], 0, "# 1 files;# all orders of 1 programs: 1, off 1"),
+            (["few.program", "off.program", "wake.program", "off.program"], 1, f"# 4 files;# all orders of 4 programs: 43, off 2, quiet {35 + ends['quiet']}, stuck {ends['stuck']}"),
             (["endless.program"], 1, "# 1 files;# all orders of 1 programs: some without end"),
             (["few.program", "endless.program", "a.sched"], 1, "# 3 files;# all orders of 1 programs: 35, quiet 35;# all orders of 1 programs: some without end"),
             (["many.program", "few.program"], 0, tried.format(2, 1000, 1000) + ";# all orders of 1 programs: 35, quiet 35"),

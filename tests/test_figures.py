@@ -83,6 +83,30 @@ class Figures(Test):
         if re.search(r"https?://", text.replace("http://www.w3.org/", "")) or text.count("<rect") != 7 or text.count("<table>") != 5:
             raise AssertionError(f"the page has {text.count('<rect')} calls in its picture, and {text.count('<table>')} tables")
 
+    def test_figures__ipis_in_vain(self):
+        """An IPI is in vain where its target had one pending at its line before: not where it had a timer's interrupt, or none, or has no note."""
+        for notes, in_vain in (("sip=0x2", 1), ("sip=0x22", 1), ("sip=0x20", 0), ("sip=0x0", 0), ("sip=0x200", 0), ("", 0), ("sip=0x2\n1 call 0x10 0 0 0 0 0 0 0 sip=0x0", 0)):
+            lines = f"record 2\n0 entry 0x80200000 0 0\n0 call 0x48534d 0 1 0x80200000 0 0 0 0\n0 ret 0 0\n1 entry 0x80200000 1 0 {notes}\n"
+            lines += "0 call 0x735049 0 3 0 0 0 0 0 sip=0x2\n0 ret 0 0\n" + "0 call 0x735049 0 2 0 0 0 0 0 sip=0x0\n0 ret 0 0\n"
+            printed, _ = ran([script(self.room, lines.encode())])
+            rows = re.findall(r"(?m)^  IPIs to harts that have one pending, by their line before +(\d+) +(\d+)$", printed)
+            must(f"{notes}: {printed}", rows == ([(str(2 * in_vain), "3")] if in_vain else []) and ("Costs, which are no faults" in printed) == bool(in_vain))
+
+    def test_figures__what_is_drawn(self):
+        """Each call that tells its time is drawn in its hart's lane, from its time on and as long as it takes; resets by no call are counted."""
+        timed = [(0, 100, 200), (7, 300, 350), (0, 400, 450), (3, 500, 1000), (7, 600, 600)]
+        lines = ["record 3 0 3 7", "0 entry 0x80200000 0 0 time=0", "0 call 0x48534d 0 7 0x80200000 0 0 0 0 time=100", "0 ret 0 0 time=200", "7 entry 0x80200000 7 0", "7 call 0x10 0 0 0 0 0 0 0 time=300", "7 ret 0 0x1000000 time=350"]
+        lines += ["0 call 0x48534d 0 3 0x80200000 0 0 0 0 time=400", "0 ret 0 0 time=450", "3 entry 0x80200000 3 0", "3 call 0x10 0 0 0 0 0 0 0 time=500", "3 ret 0 0x1000000 time=1000", "7 call 0x10 0 0 0 0 0 0 0 time=600", "7 ret 0 0x1000000 time=600"]
+        for resets in (0, 1, 2):
+            page = os.path.join(self.room, "page.html")
+            text = "".join(f"{it}\n" for it in [*lines, *["m reset", "0 entry 0x80200000 0 0 time=5"] * resets])
+            printed, _ = ran(["--page", page, script(self.room, text.encode())])
+            must(printed, printed.startswith(f"harts 3, calls 5, of which 5 tell their time; entries {3 + resets}, resets by no call {resets}, 1000 ticks\n"))
+            drawn = [tuple(map(float, it)) for it in re.findall(r'<rect x="([\d.]+)" y="([\d.]+)" width="([\d.]+)"', read(page))]
+            scale = 1100 / 900
+            wanted = [(80 + (begin - 100) * scale, 26 * [0, 3, 7].index(hart) + 4, max(1, (end - begin) * scale)) for hart, begin, end in timed]
+            must(f"{drawn}, and not {wanted}", len(drawn) == len(wanted) and all(abs(a - b) < 0.1 for one, other in zip(drawn, wanted) for a, b in zip(one, other)))
+
     def test_figures__stored_records(self):
         """Of stored records the sums are those of their lines."""
         for name in ("kernel", "survey", "u-boot", "newer"):

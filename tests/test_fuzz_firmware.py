@@ -1,9 +1,15 @@
 """tools/fuzz-firmware: stored records of its payload, each wrong answer that would have to be seen, its words, and a run under QEMU."""
+import argparse
+import contextlib
 import gzip
+import importlib.machinery
+import importlib.util
+import io
 import os
 import re
 import shutil
 import subprocess
+from collections import Counter
 from unittest import SkipTest
 
 import fuzzing
@@ -14,6 +20,9 @@ from standard import FUNCTIONS
 from .fixtures import RECORDS, ROOT, Test, must, read, read_bytes, shown, write
 
 TOOL = os.path.join(ROOT, "tools/fuzz-firmware")
+LOADER = importlib.machinery.SourceFileLoader("fuzz_firmware", TOOL)
+fuzz = importlib.util.module_from_spec(importlib.util.spec_from_loader("fuzz_firmware", LOADER))
+LOADER.exec_module(fuzz)
 # Stored records of whole runs, whose one fault is that ids are cut; and of one in which a fence hangs.
 WHOLE, HANGS = ("fuzz-whole", "fuzz-two-harts"), "fuzz-hangs"
 CUT, HANGING, BREAKS = "a hart id is all 64 bits", "calls that don't return", "breaks the standard"
@@ -114,6 +123,39 @@ def wrong_answers(text):
     yield "nothing", "", "the payload"
 
 
+# ---- what is summed of several seeds
+
+
+class Judged:
+    """Runs whose verdicts are known: `found` has the faults of seeds, and all runs try the same functions."""
+
+    def __init__(self, found, tried):
+        self.found, self.tried, self.seen = found, tried, []
+
+    def run(self, asked):
+        self.seen.append(asked.seed)
+        made = fuzzing.Verdict("", asked)
+        made.faults, made.others = {key: f"line {asked.seed}" for key in self.found.get(asked.seed, ())}, Counter({("left open", ""): 3})
+        made.tried, made.compared, made.total, made.text = self.tried, 7, 9, "record 4\n"
+        return made
+
+
+KEY, OTHER = ("breaks the standard", "an error is one of the list"), ("breaks the standard", "a state is 0 to 6")
+
+
+class Small(fuzzing.Runs):
+    """Runs that show a fault where these operations are kept, and another one where others are."""
+
+    def __init__(self, needed):
+        self.needed, self.made = needed, 0
+
+    def run(self, asked):
+        self.made += 1
+        kept, made = set(asked.all()), fuzzing.Verdict("", asked)
+        made.faults = {KEY: "it"} if self.needed <= kept else {OTHER: "another"} if kept else {}
+        return made
+
+
 class FuzzFirmware(Test):
     programs = ()
 
@@ -163,6 +205,12 @@ class FuzzFirmware(Test):
             write(console, printed)
             found = subprocess.run([TOOL, *words], stdin=subprocess.DEVNULL, capture_output=True, text=True, timeout=60)
             must(f"status {found.returncode}, and it said {found.stdout} {found.stderr}", found.returncode == status and said in found.stdout)
+        # (of several runs that a console has printed the last is judged)
+        runs = [f"OpenSBI v1.1\n\n{it}" for it in (next(wrong_answers(text))[1], text)]
+        for printed, status in (("".join(runs), 0), ("".join(runs[::-1]), 5)):
+            write(console, printed.replace("\n", "\r\n"))
+            found = subprocess.run([TOOL, *words], stdin=subprocess.DEVNULL, capture_output=True, text=True, timeout=60)
+            must(f"of two runs: status {found.returncode}, not {status}, and it said {found.stdout} {found.stderr}", found.returncode == status)
         for wrong in (["--seeds", "5-4"], ["--seeds", "1", "--harts", "9"], ["--seeds", "1", "--operations", "0"]):
             found = subprocess.run([TOOL, *wrong], stdin=subprocess.DEVNULL, capture_output=True, text=True, timeout=60)
             must(f"{wrong}: {found}", found.returncode == 1 and found.stderr.startswith("fuzz-firmware: "))
@@ -186,6 +234,37 @@ class FuzzFirmware(Test):
             found = subprocess.run(words, stdin=subprocess.DEVNULL, capture_output=True, text=True, timeout=60, env=os.environ | {"PATH": f"{self.room}:{os.environ['PATH']}"})
             said = f"1 seeds: nothing was printed: the payload; the first is 1: {ended} before the payload printed its record; the last line is '# fuzz: begun'\n"
             must(f"status {found.returncode}, and it said {found.stdout} {found.stderr}", found.returncode == 5 and said in found.stdout)
+
+    def test_fuzz__what_is_summed(self):
+        """Of several seeds each is tried, and each fault is told with how many have it and the first; a function that no run tried is told, and is no success."""
+        every = Counter({function.name: 2 for function in FUNCTIONS.values()})
+        one, other = ("breaks the standard", "an error is one of the list"), ("calls that don't return", "get_spec_version")
+        for words, found, tried, status, lines in (
+            ("7", {}, every, 0, ["seeds 1, calls and entries 9, of which 7 were compared", "faults: 0", "  1 seeds: left open"]),
+            ("3-6", {}, every, 0, ["seeds 4, calls and entries 36, of which 28 were compared", "faults: 0", "  4 seeds: left open"]),
+            ("0x3-0x4", {}, every - Counter({"hart_start": 2}), 3, ["seeds 2, calls and entries 18, of which 14 were compared", "faults: 0", "  2 seeds: left open", "never tried: hart_start"]),
+            ("1-4", {2: [one], 4: [one, other]}, every, 5, ["faults: 2", f"  2 seeds: {one[0]}: {one[1]}; the first is 2: line 2", f"  1 seeds: {other[0]}: {other[1]}; the first is 4: line 4"]),
+            ("4-4", {4: [other]}, Counter(), 5, ["faults: 1", f"  1 seeds: {other[0]}: {other[1]}; the first is 4: line 4", "never tried: hart_start"]),
+        ):  # fmt: skip
+            runs, given = Judged(found, tried), argparse.Namespace(seeds=fuzz.seeds(words), harts=4, operations=40, checks=6, ticks=5, uart=6, runs=0, keep=self.room, every=False, gdb=False)
+            with contextlib.redirect_stdout(io.StringIO()) as said:
+                ended = fuzz.fuzzed(runs, given)
+            first, last = (int(it, 0) for it in (words.partition("-")[0], words.rpartition("-")[2]))
+            must(f"{words}: {runs.seen}", runs.seen == [*range(first, last + 1)])
+            must(f"{words}: status {ended}, {said.getvalue()}", ended == status and all(it in said.getvalue().splitlines() for it in lines))
+            must(f"{words}: {os.listdir(self.room)}", {f"seed-{seed}.record" for seed in found} == set(os.listdir(self.room)))
+            for it in os.listdir(self.room):
+                os.remove(os.path.join(self.room, it))
+
+    def test_fuzz__what_is_made_small(self):
+        """A run of a fault is made small: what is left shows the same fault, and of the operations those alone that it needs."""
+        for needed in ({(2, 5)}, {(0, 0), (3, 9)}, {(1, 2), (1, 3), (2, 7)}):
+            runs = Small(needed)
+            found = runs.smaller(runs.run(fuzzing.Asked(1, 4, 10)), KEY, 400)
+            must(f"{needed}: {sorted(found.asked.all())} in {runs.made} runs", set(found.asked.all()) == needed and KEY in found.faults and found.asked.checks == 0 and runs.made <= 401)
+        runs = Small({(0, 0), (3, 9)})
+        found = runs.smaller(runs.run(fuzzing.Asked(1, 4, 10)), KEY, 3)
+        must(f"{sorted(found.asked.all())} in {runs.made} runs", runs.made <= 4 and KEY in found.faults)
 
     def image(self):
         """The payload, built here and now; or the test is skipped."""

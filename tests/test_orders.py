@@ -299,6 +299,10 @@ class Orders(Test):
         status, lines = told(self.room, "#! never 0 store\n" + RACE, name='a#b"c\\d\te.program')
         must(f"{lines}", status == 1 and lines[1].startswith('not ok 1 - a\\#b"c\\\\d?e.program: line 1: never 0 store'))
         must(f"{lines}", [line for line in lines if line.startswith('  record: "./a#b\\"c\\\\d?e.program.')])
+        # (a name is as it is: blanks are a part of it, and nothing in it is a pattern)
+        for name in (" a.program", "a.program ", " ", "a  b", "*", "%s", "~", "a\u00a0", "\u00e9.program", "'"):
+            status, lines = told(self.room, RACE, name=name)
+            must(f"{name!r}: {lines}", status == 0 and lines[1] == f"ok 1 - {name}: no order ends stuck: holds in all orders: 4")
 
     @named("files that can't be tested are told")
     def test_files_that_can_t_be_tested_are_told(self):

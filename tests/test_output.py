@@ -15,7 +15,7 @@ from xml.etree import ElementTree
 
 from board_model import START_PENDING, STATES, spelled_answer, spelled_step
 
-from . import grammar
+from . import all_orders, grammar
 from .fixtures import EVERY, EXAMPLES, PROGRAM, ROOT, TESTER, Test, must, read, read_bytes
 from .replays import below, board_line, spelled_fence, steps, table
 from .test_wrapper import clone, must_end, put
@@ -39,6 +39,10 @@ POINTS = (
     (["test"], TRACE, (None, None, False, None, "fails")), (["test"], BOARD + "0 fly\n", (2, None, False, None, "unknown operation 'fly' (fault 3)")),
 )  # fmt: skip
 
+# Of its orders the limit of seven events cuts some off; and one that goes on and on.
+CUT = "board 2 2 7 0 0x80000000 0\nat 0x80000000\necall 0x48534d 0 1 0x80001000\necall 0x53525354 0 0 0\nat 0x80001000\nsip\nsip\nsip\nsip\n"
+ENDLESS = "board 1 1 50 0 0x80000000 0\nat 0x80000000\necall 0x53525354 0 2 0\n"
+
 # Lines behind a board of two harts that are wrong, with the column and what is told, in part. A word that is told is in the line.
 SCHEDULE, OF_TRACE, PROGRAMS = "a.sched", "a.trace", "a.program"
 WRONG = (
@@ -46,13 +50,16 @@ WRONG = (
     (SCHEDULE, "C tick 1", 1, "did you mean 'c'?"), (SCHEDULE, "sip", 1, "a step begins with its actor"), (SCHEDULE, "128 sip", 1, "an actor is c, or the number of a hart: at most 127"), (SCHEDULE, "2 sip", 1, "the board has no hart 2: its harts are 0 to 1"), (SCHEDULE, "0x7f sip", 1, "the board has no hart 0x7f: its harts are 0 to 1"),
     (SCHEDULE, "0 load 80001000", 8, "80001000 is decimal, 0x4c4b7e8, and in no page of the RAM: did you mean '0x80001000'?"), (SCHEDULE, "0 load 0X10", 8, "did you mean '0x10'?"), (SCHEDULE, "0 load 8000a000", 8, "did you mean '0x8000a000'?"),
     (SCHEDULE, "0 load 1_000", 8, "did you mean '1000'?"), (SCHEDULE, "0\u00a0sip", 2, "a blank that only looks like one"), (SCHEDULE, "0 load", 7, "a word is missing (fault 5)"), (SCHEDULE, "0 value 1", 3, "before a reply an arrow stands"),
-    (OF_TRACE, "1 load 0x1000 -> 0x11", 18, "no reply word stands before it: did you mean 'value 0x11'?"), (OF_TRACE, "0 sip -> valu 1", 10, "unknown reply 'valu' (fault 3): did you mean 'value'?"), (OF_TRACE, "0 sip ->", 9, "behind the arrow a reply is wanted"),
+    (OF_TRACE, "1 load 0x1000 -> 0x11", 18, "no reply word stands before it: did you mean 'value 0x11'?"), (OF_TRACE, "1 sip -> 0x2", 10, "did you mean 'value 0x2'?"), (OF_TRACE, "0 advance -> 1", 14, "did you mean 'moved 1'?"), (OF_TRACE, "0 ecall 0x10 0 -> 0x1000000", 19, "did you mean 'ret 0 0x1000000'?"),
+    (OF_TRACE, "0 sip -> valu 1", 10, "unknown reply 'valu' (fault 3): did you mean 'value'?"), (OF_TRACE, "0 sip ->", 9, "behind the arrow a reply is wanted"),
     (PROGRAMS, "ecal 1 2", 1, "did you mean 'ecall'?"), (PROGRAMS, "poll", 1, "the firmware of a program does it by itself"), (PROGRAMS, "tick 1", 1, "'tick' stands in the block of the clock"), (PROGRAMS, "at 80001000", 4, "did you mean '0x80001000'?"),
     (PROGRAMS, "#! nevr 0 sip", 4, "unknown condition: 'nevr': did you mean 'never'?"), (PROGRAMS, "#! never 0 laod 1", 12, "unknown word: 'laod': did you mean 'load'?"), (PROGRAMS, "at 0x80000000", 4, "a second block of '0x80000000' (fault 7)"),
 )  # fmt: skip
 # A line without a fault, of each kind.
 RIGHT = {SCHEDULE: "0 sip", OF_TRACE: "0 sip -> value 0x0", PROGRAMS: "at 0x80000000\nsip"}
 TASK = {SCHEDULE: "replay", OF_TRACE: "check", PROGRAMS: "run"}
+# Lines of a schedule whose decimal numbers are meant so: ticks, and addresses that hexadecimal would be none of the RAM's four pages either.
+GOOD = ("c tick 80001000", "0 load 80004000", "0 load 7999999", "0 store 90000000 1", "1 sip")
 
 
 class Made(Test):
@@ -157,6 +164,39 @@ class JsonLines(Made):
             must(f"{text}: {point}", (point["file"], point["line"], point["condition"], point["ok"]) == ("race: line 7: x#\\y", line, condition, is_ok) and point["why"].startswith(why))
             must(f"{text}: {point}", (set(point["looked"]) if point["looked"] else None) == looked and (not looked or "orders" not in looked or point["looked"]["orders"] > 1))
             must(f"{text}: {status} {found}", not others and {"kind": "plan", "points": 1} in found and (status == 0) == is_ok)
+            must(f"{text}: {point}", point["column"] == (3 if "fly" in text else None))
+
+    def test_json__how_far_was_looked(self):
+        """Each point has how far was looked: at all orders and how many these are, or at how many of which seed, at how many runs, and how many the limit cut off."""
+        many = sum(all_orders.Orders(RACE).ends.values())
+        some, runs = {"all": False, "orders": 4, "seed": 9}, {"all": False, "runs": 4}
+        cut = re.search(r"# ends: \d+ off, (\d+) history-full", self.called("test", "--times", "300", self.put("cut.program", CUT))[1])
+        for words, text, wanted in (
+            (["test"], RACE, [{"all": True, "orders": many}]), (["test"], "#! some 0 advance\n#! some 0 wfi\n" + RACE, [{"all": True, "orders": many}] * 2), (["explore"], RACE, [{"all": True}]),
+            (["explore"], "#! some 0 advance\n#! some 0 fencei\n" + RACE, [None, {"all": True}]), (["test"], ENDLESS, [None]), (["test"], "#! never 9 sip\n" + RACE, [None]),
+            (["test", "--times", "4", "--seed", "9", "--threads"], RACE, [some, runs]), (["test", "--times", "4", "--seed", "9", "--threads"], "#! some 0 load _ -> value 9\n" + RACE, [some, runs]),
+            (["test", "--times", "2000", "--seed", str((1 << 64) - 1)], RACE, [{"all": False, "orders": 2_000, "seed": (1 << 64) - 1}]),
+            (["test", "--times", "300"], "#! end off\n#! never 0 wfi\n" + CUT, [{"all": False, "orders": 300, "seed": 0, "cut": int(cut[1])}, {"all": False, "orders": 300, "seed": 0}]),
+            (["test", "--times", "9", "--threads"], "#! end quiet\n" + RACE.replace(" 100 ", " 2 "), [{"all": False, "cut": 9}] * 2),
+            (["test", "--times", "5", "--threads"], "#! never 0 load 8 -> value 1\n" + RACE, [{"all": False, "orders": 5}, {"all": False, "runs": 5}]),
+        ):  # fmt: skip
+            _, found, _ = self.json(words[0], "--json", *words[1:], self.put("a.program", text))
+            looked = [it["looked"] for it in found if it["kind"] == "point"]
+            must(f"{words} {text}: {looked}, and not {wanted}", looked == wanted)
+        must(f"{cut}", 0 < int(cut[1]) < 300)
+
+    def test_json__names_that_begin_alike(self):
+        """A point is one of the file whose name it has, also where another file's name begins so, in any order; so it is in the XML."""
+        names = ["a", "a.sched", "a.sched: line 1: x", "a.sched:2:3: unknown"]
+        for name in names:
+            self.put(name, "#! never 0 sip\n" + BOARD + "0 advance\n" if name.endswith("x") else BOARD + "0 fly\n" if name.endswith("n") else BOARD + "0 advance\n")
+        for files in (names, names[::-1], [*names[2:], *names[:2]]):
+            _, found, _ = self.json("test", "--json", *files)
+            points = [it for it in found if it["kind"] == "point"]
+            must(f"{files}: {points}", [it["file"] for it in points] == files and [it["line"] for it in points if it["line"]] == [{"x": 1, "n": 2}[name[-1]] for name in files if name[-1] in "xn"])
+            self.called("test", "--junit", "made.xml", *files)
+            root = ElementTree.parse(os.path.join(self.room, "made.xml")).getroot()
+            must(f"{files}", [(it.get("name"), it.get("tests")) for it in root] == [(name, "1") for name in files])
 
     def test_json__what_stands_below_a_point(self):
         """A point that fails has its record, the steps around the place and who waits; a trace each line that differs."""
@@ -189,6 +229,8 @@ class Xml(Made):
         must("suites", [it.get("name") for it in root] == files and [it.get("tests") for it in root] == ["3", "1", "1", "1"])
         kinds = {it.get("name"): {part.tag for part in it} for it in root[0]}
         must(f"{kinds}", kinds == {"line 1: end quiet": {"system-out"}, "line 2: never 0 load 0x80001000 -> value 0x2": {"failure"}, "line 3: some 0 load 0x80001000 -> value 0x1": {"system-out"}})
+        details = re.findall(r"(?m)^(\w+): ", root[0][1][0].text)
+        must(f"{details}", details == ["length", "record", "place", "steps"] and root[0][1][0].text.count(" -> ") > 3)
         must("texts", "record: ./a & <b>.program.2.failed" in root[0][1][0].text and root[1][0][0].get("message") == "unknown operation 'fly' (fault 3)" and root[3][0][0].tag == "error")
         *_, root = self.junit("--times", "0", "a & <b>.program")
         must("what isn't judged", [part.tag for it in root[0] for part in it] == ["error"] * 3 and root.get("errors") == "3")
@@ -199,6 +241,13 @@ class Xml(Made):
         put(os.path.join(self.room, "clone/crates/sbiboard_test/out/sbiboard_test"), "#!/bin/bash\nexit 6\n")
         status, _, _, root = self.junit("a.sched")
         must("an error", status == 6 and root.get("errors") == "1" and "status 6" in root[0][0][0].get("message"))
+        # (points of which there is no plan aren't all, whatever the status)
+        for ends in (0, 1, 6, 7):
+            said = "TAP version 13\\nok 1 - a.sched (1 lines)\\n"
+            put(os.path.join(self.room, "clone/crates/sbiboard_test/out/sbiboard_test"), f'#!/bin/bash\nwhile [ "$1" != --tap ]; do shift; done\nprintf "{said}" | tee "$2"\nexit {ends}\n')
+            status, out, _, root = self.junit("a.sched")
+            errors = [it.get("message") for it in root.iter("error")]
+            must(f"{ends}: {out} {errors}", status == ends and (root.get("tests"), root.get("errors")) == ("2", "1") and errors == [f"not all points were told: the program ended with status {ends}"])
         status, out, said = self.called("test", "--junit", "none/made.xml", "a.sched")
         must(f"{said}", (status, out) == (7, "") and said.startswith("sbiboard: none/made.xml: "))
 
@@ -311,6 +360,13 @@ class Xml(Made):
         for task in ("test", "explore"):
             plain, found = self.called(task, "a.program"), self.called(task, "-", stdin=text.encode())
             must(f"{found}", found == (0, plain[1].replace("a.program", "/dev/stdin"), "") and "ok 1 - /dev/stdin: line 1: end quiet: holds" in found[1])
+        # (as long as a script may be, and a byte longer)
+        for more, is_good in ((0, True), (1, False), (70_000, False)):
+            text = (schedule + "#" * (16_777_216 - len(schedule) + more)).encode()
+            status, found, _ = self.json("test", "--json", "-", stdin=text)
+            must(f"{more}: {found}", (status == 0) == is_good and (found[0]["ok"], "(fault 8)" in found[0]["why"]) == (is_good, not is_good))
+            status, found, said = self.json("replay", "--json", "-", stdin=text)
+            must(f"{more}: {found} {said}", (status, said) == ((0, "") if is_good else (1, "sbiboard: line 0: fault 8\n")) and bool(found) == is_good)
         status, found, said = self.json("test", "--json", "--explain", "-", stdin=(BOARD + "0 fly\n0 sipp\n").encode())
         must(f"{found} {said}", status == 1 and found[0]["why"].startswith("unknown operation 'fly'") and said.splitlines()[1] == "/dev/stdin:3:3: unknown operation 'sipp' (fault 3): did you mean 'sip'?")
 
@@ -355,6 +411,10 @@ class Boards(Made):
             must(f"line {line}: {changed}, and not of harts {other}", [it.split()[1].rstrip(":") for it in changed if it.startswith("hart ")] == other)
             must(f"line {line}: {changed}", any(it.startswith("board: ") for it in changed) == (before[:2] != behind[:2]))
             before = behind
+        # (the JSON of each step has the same changes)
+        changes = [[it[4:] for it in block.splitlines()[1:] if it.startswith("# ~ ")] for block in told]
+        status, found, _ = self.json("replay", "--json", "--diff", "every.sched")
+        must(f"{found}", status == 0 and [it["changes"] for it in found if it["kind"] == "step"] == changes and len({tuple(it) for it in changes}) > 20)
         one = self.called("replay", "--diff", "--at", "4", "every.sched")[1]
         must(f"{one}", one == told[0] and "# ~ hart 1: state START_PENDING -> STARTED\n" in one)
 
@@ -407,9 +467,9 @@ class Explained(Made):
             for task in (TASK[name], "test"):
                 told = self.told(task, name, text)
                 must(f"{task} {wrong!r}: {told}", len(told) == 1 and told[0].startswith(f"{at}:{column}: ") and meant in told[0])
-        for name, text in RIGHT.items():
+        for name, text in (*RIGHT.items(), (SCHEDULE, "\n".join(GOOD))):
             for task in (TASK[name], "test"):
-                must(f"{task} {name}", self.told(task, name, f"{BOARD}{text}\n") == [])
+                must(f"{task} {name} {text}", self.told(task, name, f"{BOARD}{text}\n") == [])
 
     def test_explain__all_faults_of_a_file(self):
         """All faults of a file are told, sorted, also behind a faulty board line; at most twenty; lines of another kind once."""
@@ -431,6 +491,11 @@ class Explained(Made):
         """A script of another kind is told with the task that takes it, and a file that can't be opened with the cause."""
         self.put("a.trace", TRACE)
         must("a trace", self.told("replay", "a.trace", TRACE) == ["2:1: a trace, and replay takes a schedule: did you mean 'check' or 'test'?", "3:1: the board has no hart 007: its harts are 0 to 0"])
+        of_kind = {"schedule": (BOARD + "0 advance\n", "replay"), "trace": (BOARD + "0 advance -> gone\n", "check"), "program": (BOARD + "at 0x80000000\nsip\n", "run")}
+        for task, takes in (("replay", "schedule"), ("run", "program"), ("explore", "program")):
+            for kind, (text, other) in of_kind.items():
+                told = self.told(task, "a.any", text)
+                must(f"{task}: {told}", told == ([] if kind == takes else [f"2:1: a {kind}, and {task} takes a {takes}: did you mean '{other}' or 'test'?"]))
         for name, why in (("none", "no such file"), (".", "is a directory"), ("a.trace/x", "can't be read")):
             for task in ("run", "replay", "check"):
                 must_end(self.called(task, "--explain", name), 7, "", f"sbiboard: {name}: {why}\n")

@@ -383,7 +383,11 @@ class Points(Test):
             lines = tester(self.room, "a.program", name="sbiboard explore", timeout=200).stdout.splitlines()
             must(f"{lines}", sorted(it for it in lines if it.startswith("#   ")) == wanted and f"# outcomes: {len(wanted)}" in lines)
         # (a load and a fetch that fail give the number of their cause)
-        for op, wanted in (("load 0x80000001", "fault-4"), ("load 0x1000", "fault-5"), ("fetch 0x80000001", "fault-0"), ("fetch 0x1000", "fault-1"), ("load 0x80000ff8", "0x0"), ("fetch 0x80000ff8", "0x0")):
+        pages = "satp 0x8000000000080000\n"
+        for op, wanted in (
+            ("load 0x80000001", "fault-4"), ("load 0x1000", "fault-5"), ("fetch 0x80000001", "fault-0"), ("fetch 0x1000", "fault-1"), ("load 0x80000ff8", "0x0"), ("fetch 0x80000ff8", "0x0"),
+            (pages + "load 0x1000", "fault-13"), (pages + "fetch 0x1000", "fault-12"),
+        ):  # fmt: skip
             write(os.path.join(self.room, "a.program"), f"board 1 1 9 0 0x80000000 0\nat 0x80000000\n{op}\n")
             lines = tester(self.room, "a.program", name="sbiboard explore").stdout.splitlines()
-            must(f"{op}: {lines}", f"#   0:3={wanted} quiet: 1 states, 1 orders" in lines)
+            must(f"{op}: {lines}", f"#   0:{op.count(chr(10)) + 3}={wanted} quiet: 1 states, 1 orders" in lines)

@@ -1,5 +1,6 @@
 """Tests of tools/record with stand-ins for gdb and QEMU, which play stops: each kind of stop, calls inside calls by an interrupt,
 resets, refused starts, and each way in which a run ends."""
+import hashlib
 import json
 import os
 import re
@@ -93,6 +94,11 @@ PLAYS = [
          [*TWO_LINES, call(0, *FENCE), "0 ret 0 0x3", call(0, *SEND), "0 ret 0 0x0", call(1, TIME, 0, 8), "1 ret 0 0x4", "m end off"]),
     Play("two harts that use the same stack's address", [*TWO, calls(0, *FENCE), calls(1, *FENCE), is_back(1, 0, 1), is_back(0, 0, 2), OFF],
          [*TWO_LINES, call(0, *FENCE), call(1, *FENCE), "1 ret 0 0x1", "0 ret 0 0x2", "m end off"]),
+    Play("a trap vector with its mode", [{**enters(0), "mtvec": VECTOR | 1}, calls(0, TIME, 0, 5), is_back(0), OFF], [BOOT, call(0, TIME, 0, 5), "0 ret 0 0x0", "m end off"]),
+    Play("a start at an odd address", [enters(0), calls(0, HSM, 0, 1, HANDLER | 1, 9), is_back(0), enters(1, HANDLER, 9), OFF],
+         [BOOT, call(0, HSM, 0, 1, HANDLER | 1, 9), "0 ret 0 0x0", "1 entry 0x80300000 0x1 0x9", "m end off"]),
+    Play("a start by an id with higher bits", [enters(0), calls(0, HSM, 0, 1 << 32 | 1, HANDLER, 9), is_back(0), enters(1, HANDLER, 9), OFF],
+         [BOOT, call(0, HSM, 0, 1 << 32 | 1, HANDLER, 9), "0 ret 0 0x0", "1 entry 0x80300000 0x1 0x9", "m end off"]),
     Play("a firmware that changes the stack pointer", [enters(0), calls(0, *FENCE), is_back(0, 0, 1, sp=OTHER), OFF], [BOOT, call(0, *FENCE), "0 ret 0 0x1", "m end off"]),
     Play("a machine that is switched off without a word to gdb", [enters(0), calls(0, SRST, 0, 0), {"ends": "exits"}], [BOOT, call(0, SRST, 0, 0), "m end off"]),
     Play("a connection that is lost", [enters(0), calls(0, TIME, 0, 5), is_back(0), {"ends": "Remote connection closed"}],
@@ -213,11 +219,30 @@ class Recorders(Test):
         found, lines = recorded(self.room, Play("", [{"waits": 60}], [], words=("--seconds", "1", "--grace", "0")))
         must(f"of nothing in time: status {found.returncode}, and it said {shown(found.stderr)}", found.returncode == 1 and b"record: nothing was recorded before the limit of 1 s was over" in found.stderr and not lines)
 
+    def test_recorder__the_machine_is_as_asked(self):
+        """QEMU is given the harts, the memory, the firmware, the device tree and the image that are asked for, and the entry is the one that is named."""
+        tree = write(os.path.join(self.room, "tree"), "a tree")
+        for harts, words, memory, has_tree, entry in ((1, (), "128", False, ENTRY), (2, ("--memory", "256"), "256", False, ENTRY), (8, ("--dtb", tree, "--memory", "2048"), "2048", True, ENTRY), (128, ("--entry", "0x80400000"), "128", False, 0x80400000)):
+            found, lines = recorded(self.room, Play("", [enters(0, entry), OFF], [], harts=harts, words=words))
+            given = read(os.path.join(self.room, "play.ran")).splitlines()
+            value = lambda name, given=given: given[given.index(name) + 1]
+            image = os.path.join(self.room, "image")
+            must(f"{words}: {given}", [value(it) for it in ("-machine", "-smp", "-m", "-bios", "-kernel")] == ["virt", str(harts), memory, image, image] and ("-dtb" in given) == has_tree)
+            must(f"{words}: {given}, {lines}", (not has_tree or value("-dtb") == tree) and not found.returncode and lines[0].startswith(f"0 entry {entry:#x} 0x0 0x7"))
+            os.remove(os.path.join(self.room, "play.ran"))
+            os.remove(os.path.join(self.room, "out"))
+        # (the head names the image and the firmware, each for itself)
+        data, other = "an image of its own", write(os.path.join(self.room, "firmware"), "a firmware")
+        recorded(self.room, Play("", [enters(0), OFF], [], harts=1, words=("--bios", other)), data)
+        head = read(os.path.join(self.room, "out")).splitlines()
+        must(f"{head}", head[0] == f"# image image sha256 {hashlib.sha256(data.encode()).hexdigest()[:16]}" and head[1] == "# firmware firmware" and ", virt, 1 hart" in head[2] and head[4] == "record 1")
+
     def test_recorder__each_hart_and_each_register(self):
         """Of each hart each call and each return is in the record, with each of its registers in its own place."""
         for harts, turns in ((4, 9), (128, 2)):
             stops, wanted = of_all_harts(harts, turns)
-            _, lines = recorded(self.room, Play("", stops, [], harts=harts))
+            found, lines = recorded(self.room, Play("", stops, [], harts=harts))
+            must(f"of {harts} harts it said {shown(found.stderr)}", f"\nrecord {harts}\n" in read(os.path.join(self.room, "out")) and b"can't be followed" not in found.stderr)
             plain = [" ".join(word for word in line.split(" ") if "=" not in word) for line in lines]
             at = next((at for at, (one, other) in enumerate(zip(plain, wanted)) if one != other), min(len(plain), len(wanted)))
             must(f"of {harts} harts line {at} is {plain[at : at + 1]}, and not {wanted[at : at + 1]}, of {len(plain)} and {len(wanted)}", plain == wanted)
@@ -238,7 +263,7 @@ class Recorders(Test):
             ([("login: ", "root"), ("login: ", "again")], [("a login: ", True), ("no\nlogin: ", True)], ["root", "again"]),
             ([("aa", "1"), ("aa", "2")], [("aa", True), ("a", False), ("a", True)], ["1", "2"]),
             ([("> ", "one"), ("$ ", "two"), ("> ", "three")], [("$ ", False), (">", False), (" ", True), ("$ ", True), ("..> ", True), ("$ > ", False)], ["one", "two", "three"]),
-            ([("never", "no")], [("login: ", False)], []),
+            ([("never", "no")], [("login: ", False)], []), ([("login: ", "root")], [("." * 9_000 + "\nlogin: ", True), ("\n" + "." * 9_000 + "\n", False)], ["root"]),
         ):  # fmt: skip
             stops = [enters(0), calls(0, TIME, 0, 5), is_back(0), {"talks": 1}, {"ends": "exits"}]
             found, _ = recorded(self.room, Play("", stops, [], harts=1, words=("--console", console, *says(*lines))), talk=talk)

@@ -150,6 +150,13 @@ def must_add_up(what, report):
     must(f"{what}: {report.calls} calls and {report.entries} entries, and the classes are {dict(report.counts)}", total == report.calls + report.entries and report.compared <= total)
     for kind in FAULTS:
         must(f"{what}: {kind} is told, and no call or entry has it", not (report.items[kind] and not any(report.counts[other] for other in FAULTS)))
+    # (of what is told of one call or entry the worst counts, in the order in which the report's faults stand)
+    rank = [*FAULTS, "follows", "unjudged", "own", "open"]
+    calls = {report.record.lines[line.reply].number: line.number for line in report.record.lines if line.reply is not None}
+    told = {}
+    for kind in rank[::-1]:
+        told |= {calls.get(item.at, item.at): kind for item in report.items[kind]}
+    must(f"{what}: the classes are {report.classes}, and told is {told}", {at: kind for at, kind in report.classes.items() if kind in rank} == told)
 
 
 # ---- what is told, and is no fault
@@ -304,7 +311,15 @@ CONDITIONS = [
     ("some _ ecall HSM 3 0x80000000", True, "some _ ecall 0x48534d 3 0x80000000"),
     ("some _ ecall SRST 0 1", False, "some _ ecall 0x53525354 0 1"),
     ("each _ ecall TIME -> ret 0", True, "each _ ecall 0x54494d45 -> ret 0"),
+    ("never _ ecall IPI 0 0xff00", True, "never _ ecall 0x735049 0 0xff00"),
+    ("each _ ecall BASE 0 -> ret 0 0x1000000", True, "each _ ecall 0x10 0 -> ret 0 0x1000000"),
 ]
+
+# How a record says that it ended, and what the report says of that.
+ENDS = (
+    ("", "it doesn't say how"), ("m end off\n", "the machine was switched off"), ("m end limit\n", "by the recorder's limit of time"), ("m end closed\n", "the recorder lost the machine"),
+    ("# ended: the limit of 60 s\n", "by the recorder's limit of time"), ("# ended: the machine was switched off\n", "the machine was switched off"), ("# it ended well\n", "it doesn't say how"),
+)  # fmt: skip
 
 
 class Reports(Test):
@@ -327,6 +342,9 @@ class Reports(Test):
             report = reported(text)
             must(f"{what}: the report is {list(report.lines())}", not report.is_bad and not (kind and at not in [item.at for item in report.items[kind]]))
             must_add_up(what, report)
+        for line, said in ENDS:
+            told = [*reported(TWO + answered(TIME, 0, 5) + line).lines()]
+            must(f"{line!r}: {told}", [it for it in told if it.startswith("the record ends: ")] == [f"the record ends: {said}"])
         must("an error of the version that has the extension is no fault", not reported(TWO + "0 call 0x535441 0 0 0 0 0 0 0\n0 ret -9 0\n", None, (), (1, 0)).is_bad)
         must("an error that the function's section doesn't name passes by --spec 2.0", reported(BOOT + answered(HSM, 2, 0, ret="-9 0"), None, (), (2, 0)).is_bad)
         path = script(self.room, (TWO + answered(PMU, 0, ret="-9 0")).encode())

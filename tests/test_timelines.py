@@ -51,12 +51,37 @@ def must_be_told_stale(path, data):
     must(f"{path}: told as stale are the lines {told}, and marked {marked}; {shown(found.stdout)}", told == marked)
 
 
+# Steps, and the word that each has in a picture.
+WORDS = (
+    ("0 advance", ""), ("0 ecall 0x48534d 0 1 0x80000000 0", "start"), ("1 advance", ""), ("0 ecall 0x48534d 2 1", "status"), ("0 ecall 0x735049 0 2 0", "ipi"), ("1 sip", "sip"), ("1 clearssip", "clearssip"),
+    ("0 ecall 0x52464e43 0 2 0", "fence.i"), ("1 serve", "serve"), ("0 poll", "poll"), ("0 ecall 0x52464e43 1 2 0", "fence"), ("1 serve", "serve"), ("0 poll", "poll"), ("0 ecall 0x52464e43 2 2 0", "fence"), ("1 serve", "serve"),
+    ("0 poll", "poll"), ("0 ecall 0x10 0", "call"), ("0 ecall 0x54494d45 0 5", "call"), ("0 store 0x80000000 0x7", "store 0x7"), ("0 store 0x80000008 0x10000", "store"), ("1 load 0x80000000", "load 0x7"), ("1 load 0x1000", "load"),
+    ("1 fetch 0x80000008", "fetch 0x10000"), ("1 sie 2", "sie"), ("1 fencei", "fencei"), ("1 sfence - -", "sfence"), ("c tick 1", "tick"), ("1 ecall 0x48534d 3 0 0", "suspend"), ("0 ecall 0x53525354 0 1 0", "reset"),
+    ("0 advance", ""), ("0 ecall 0x48534d 1", "stop"),
+)  # fmt: skip
+
+
 def picture(room):
     """The picture of the README is the one that the tool makes, and a long file has none."""
     made, _ = tool([TIMELINE, "--svg", os.path.join(EXAMPLES, "forgotten-hart.sched")])
     must("docs/forgotten-hart.svg isn't what tools/timeline --svg examples/forgotten-hart.sched prints", made == open(PICTURE, "rb").read())
     part, _ = tool([TIMELINE, "--svg", "--steps", "4-9", os.path.join(EXAMPLES, "forgotten-hart.sched")])
     must("a picture of six steps has other ones", part.count(b'text-anchor="middle"') == 6 and b'viewBox="0 0 458 192"' in part)
+    # (each call has its own word)
+    found = tool([TIMELINE, "--svg", script(room, ("board 2 1 100 0 0x80000000 0\n" + "".join(f"{it}\n" for it, _ in WORDS)).encode())])[0].decode()
+    words = re.findall(r'text-anchor="middle">([^<]*)</text>', found)
+    must(f"the steps are named {words}", words == [word or "&#8226;" for _, word in WORDS])
+    # (a part has the arrows and the marks of its own steps)
+    whole, _ = data_of(tool([TIMELINE, os.path.join(EXAMPLES, "forgotten-hart.sched")])[0])
+    last, seen = len(whole["actors"]) - 1, set()
+    for first, behind in ((0, last), (4, 9), (0, 3), (2, 17), (16, last), (19, last), (20, 20), (23, last), (last, last)):
+        part = tool([TIMELINE, "--svg", "--steps", f"{first}-{behind}", os.path.join(EXAMPLES, "forgotten-hart.sched")])[0].decode()
+        arrows = sum(first <= a and b <= behind for a, _, b, _, _ in whole["arrows"])
+        stale = sum(first <= it <= behind for it in whole["stale"])
+        marks, named = part.count('fill="none" stroke="#b00020"'), part.count(">stale</text>")
+        must(f"steps {first} to {behind}: {part.count('marker-end=')} arrows, {marks} marks", (part.count("marker-end="), marks, named) == (arrows, stale + bool(stale), int(bool(stale))))
+        seen |= {(bool(arrows), bool(stale))}
+    must(f"{seen}", len(seen) == 4)
     for words, said in ((["--svg"], b"are too many for a picture"), (["--svg", "--steps", "0-99999"], b"it has the steps 0-"), (["--svg", "--steps", "9-8"], b"it has the steps 0-")):
         must(f"{words}: another fault is told", said in tool([TIMELINE, *words, record("kernel")], 1)[1])
     tool([TIMELINE, "--svg", "--steps", "8", record("kernel")], 2)
@@ -189,6 +214,34 @@ def must_be_wanted(data, told, wanted):
         must(f"hart {hart} is drawn as {shades}", shades == [it[hart] for it in wanted.shades] and lane[0][0] == 0)
 
 
+# The words of calls in a page.
+CALLS = {
+    0x48534D: ("start", "stop", "status", "suspend"), 0x735049: ("ipi",), 0x52464E43: ("fence.i", "fence", "fence"), 0x54494D45: ("timer",), 0x53525354: ("reset",),
+}  # fmt: skip
+
+
+def word_of(words):
+    """The word that a page has of a step."""
+    return dict(enumerate(CALLS.get(int(words[2], 0), ()))).get(int(words[3], 0), "call") if words[1] == "ecall" else words[1]
+
+
+def must_draw_marks(drawn, wanted, data, x, near):
+    """Arrows lead from lane to lane in the colour of their kind; a reset is a bar across all lanes; what is stale, or answered otherwise, is marked; steps have numbers from 1."""
+    lane, tops = drawn["lane"], drawn["tops"]
+    for a, h, b, t, kind in data["arrows"]:
+        ends = (x(a + 0.5), tops[h + 1] + (lane if t > h else 0), x(b + 0.5), tops[t + 1] + (0 if t > h else lane))
+        must(f"the arrow {a} {h} {b} {t} is not drawn in {drawn['lines']}", any(all(map(near, it, ends)) and it[4] == data["kindColours"][kind] for it in drawn["lines"]))
+    bars = [it for it in drawn["rects"] if it[2] == 3 and it[4] == "#b00020"]
+    must(f"the resets {data['resets']} are drawn as {bars}", [near(it[0] + 1.5, x(place + 0.5)) and it[1] == tops[0] and it[3] > tops[-1] - tops[0] for it, place in zip(bars, data["resets"], strict=True)] == [True] * len(bars))
+    for places, colour in ((data["stale"], "#d00020"), (sorted({*data["other"]} - {*data["stale"]}), "#e07000")):
+        marks = sorted(([it[0] + it[2] / 2, it[1]] for it in drawn["rects"] if it[4] == colour), key=lambda it: it[0])
+        must(f"the marks of {places} are {marks}", len(marks) == len(places) and all(near(it[0], x(place + 0.5)) and it[1] == tops[wanted.actors[place] + 1] - 3 for it, place in zip(marks, places)))
+    numbers = [(int(text), at) for text, at, y in drawn["words"] if y == 12]
+    must(f"the steps have the numbers {numbers}", len(numbers) > 5 and all(near(at + 8, x(number - 0.5)) for number, at in numbers))
+    counts = [f"{len(data[name])} {said}" for name, said in (("stale", "stale"), ("other", "where the board does otherwise")) if data[name]]
+    must(f"the key is {drawn['keys']}, and not {counts}", [it for it in drawn["keys"] if it.endswith((" stale", " otherwise"))] == counts and len(data["arrows"]) == len(drawn["lines"]) > 2)
+
+
 def must_draw(drawn, wanted, data):
     x = lambda place: drawn["lefts"] + place * drawn["per"]
     near = lambda one, other: abs(one - other) < 1.5
@@ -198,10 +251,11 @@ def must_draw(drawn, wanted, data):
             must(f"hart {hart} is not drawn as {data['names'][shade]} from step {first} to {last}", any(is_one(it) and it[4] == data["colours"][shade] for it in drawn["rects"]))
     for place, actor in enumerate(wanted.actors):
         top = drawn["tops"][actor + 1]
-        is_one = lambda it: near(it[1], x(place + 0.5)) and top <= it[2] <= top + drawn["lane"] and not it[0].startswith(("hart", "clock"))
+        is_one = lambda it, word=word_of(wanted.texts[place].split(" ")): near(it[1], x(place + 0.5)) and top <= it[2] <= top + drawn["lane"] and it[0] == word
         must(f"step {place} has no word in the lane of {actor}: {wanted.texts[place]}", any(is_one(it) for it in drawn["words"]))
     times = [[place, word] for place, word in wanted.times if not any(it[0] == "0x" + word for it in drawn["words"])]
     must(f"the times {times} are not drawn", not times)
+    must_draw_marks(drawn, wanted, data, x, near)
     heads = [["clock" if not at else f"hart {at - 1}", top] for at, top in enumerate(drawn["tops"])]
     must("the lanes have other names", all(any(it[0] == name and top < it[2] < top + drawn["lane"] for it in drawn["words"]) for name, top in heads))
 
@@ -312,6 +366,9 @@ c tick 5
         must("120 steps", printed_by([TIMELINE, "--svg", steps(120)])[0].count("<text ") > 120)
         _, said = printed_by([TIMELINE, "--svg", steps(121)], 1)
         must(said, said.endswith(": 121 steps are too many for a picture: at most 120\n"))
+        for chosen, is_there in (("0-119", True), ("119-119", True), ("0-0", True), ("0-120", False), ("120-120", False), ("5-4", False)):
+            out, said = printed_by([TIMELINE, "--svg", "--steps", chosen, steps(120)], 0 if is_there else 1)
+            must(f"{chosen}: {said}", bool(out) == is_there and said.endswith("" if is_there else ": it has the steps 0-119\n"))
         must("a page of 121 steps", len(of_one(dict(Parts(printed_by([TIMELINE, steps(121)])[0]).all_of("script"))["data"])["actors"]) == 121)
         for words, status in (([], 2), (["--fly", path], 2), ([path, path, path], 2), (["--svg", path, path], 2), ([os.path.join(self.room, "none")], 1), ([path, self.room], 1)):
             out, said = printed_by([TIMELINE, *words], status)

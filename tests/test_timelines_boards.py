@@ -244,6 +244,15 @@ def both(page):
     return json.loads(scripts["data"]), scripts["texts"].split("\n")
 
 
+# Steps of one hart, and what each changes of what a page shows of it. The last one switches the board off.
+SHOWN = (
+    ("0 advance", ["STARTED", "entered"]), ("0 sie 0x2", ["sie SSIE"]), ("0 sie 0x20", ["sie STIE"]), ("0 sie 0x22", ["sie SSIE+STIE"]), ("0 sie 0", ["sie 0"]), ("0 sip", []), ("0 ecall 0x735049 0 1 0", ["pending SSIP"]),
+    ("0 clearssip", ["SSIP 0"]), ("0 ecall 0x54494d45 0 5", ["deadline 0x5"]), ("c tick 5", ["pending STIP"]), ("0 ecall 0x54494d45 0 9", ["STIP 0", "deadline 0x9"]), ("0 sstatus 1", ["sstatus.SIE"]), ("0 sstatus 0", ["sstatus.SIE 0"]),
+    ("0 satp 0x8000000000080000", ["satp 0x8000000000080000"]), ("0 satp 0", ["satp 0"]), ("0 ecall 0x52464e43 0 1 0", ["in a fence call, waits for: none"]), ("0 poll", ["out of the fence call"]),
+    ("0 ecall 0x53525354 0 0 0", None),
+)  # fmt: skip
+
+
 class TimelinesBeside(Test):
     programs = ()
 
@@ -283,9 +292,30 @@ class TimelinesBeside(Test):
         stale = [text for kind, text in shown["board"][2] if kind == "stale"]
         must(f"{shown['board']}", [it[0][1] for it in shown["board"]] == ["hart 0", "hart 1", "hart 2"] and stale == ["translation 0x1000 to 0x80004000 rw-d (ASID 5), filled at step 14, STALE since step 15"])
         must(f"{shown['why']}", len(shown["why"]) == 4 and shown["why"][2].endswith("asked hart 1, not hart 2") and shown["why"][3].startswith("beside: 21  2 load 0x1000 -> value 0x22"))
+        # (a box is around each step whose answer is another one than beside)
+        data, texts = both(read(path))
+        first = len(data["courses"][0]["actors"])
+        answers = [it.partition("   # ")[0].partition(" -> ")[2] for it in texts]
+        answers, wanted = [answers[:first], answers[first:]], []
+        for index, course in enumerate(data["courses"]):
+            differing = [place for place, twin in enumerate(course["twins"]) if twin >= 0 and answers[index][place] != answers[1 - index][twin]]
+            wanted += [(shown["lefts"] + place * shown["per"] + 1, shown["tops"][index][course["actors"][place] + 1] - 1) for place in differing]
+        boxes = [it[:2] for it in shown["boxes"] if it[2] > 0 and it[4] == "#0050c0"]
+        must(f"the boxes are {boxes}, and not {wanted}", len(boxes) == len(wanted) >= 4 and all(any(abs(x - a) < 1.5 and y == b for x, y in boxes) for a, b in wanted))
         asked = json.loads(printed_by(["node", DRAWN, path, "1400", "700", "16"])[0])["board"]
         must(f"{asked}", ["new", "fence from hart 0: sfence.vma of 0x1000 to 0x1fff, asked at step 16"] in asked[1] and ["new", "in a fence call, waits for: 1"] in asked[0])
         must("a word for each", {"from here on others", "forgotten-hart.sched", "mended <b>.sched"} <= {it[0] for it in shown["words"]})
+
+    def test_timelines__registers_that_a_page_shows(self):
+        """A page shows behind each step what it changed of a hart's registers, each by its own name, and whether the power is off."""
+        if shutil.which("node") is None:
+            raise SkipTest("node is missing")
+        path = write(os.path.join(self.room, "page.html"), printed_by([TIMELINE, script(self.room, "".join(f"{it}\n" for it in ("board 1 1 99 0 0x80000000 0", *(line for line, _ in SHOWN))).encode())])[0])
+        for step, (line, wanted) in enumerate(SHOWN, 1):
+            shown = json.loads(printed_by(["node", DRAWN, path, "1400", "700", str(step)])[0])
+            found = [text for kind, text in shown["board"][0] if kind == "new"]
+            must(f"{line}: {found}, and not {wanted}", wanted is None or found == wanted)
+            must(f"{line}: {shown['head']}", shown["head"].startswith(f"the board behind step {step}") and (", power off" in shown["head"]) == (step == len(SHOWN)))
 
     def test_timelines__two_in_a_browser(self):
         """A real browser shows two courses, with the board and the cause of the step at which the page opens."""

@@ -57,6 +57,7 @@ class WaysOut(Test):
                 status, found, lines = in_way(self.room, ("sbiboard", words), f"#! can end quiet\n#! maybe can end\n{text}")
                 wanted = [f"not ok line 1: can end quiet{ASKS_OF_ALL}", f"not ok line 2: maybe can end{ASKS_OF_ALL}"] * many
                 must(f"{words}: {lines}", status == 8 and found == wanted and f"# {2 * many} points, 0 failed, {2 * many} not judged" in lines and not any("record:" in it for it in lines))
+                must(f"{words}: {os.listdir(self.room)}", os.listdir(self.room) == ["a.program"])
         status, found, _ = in_way(self.room, ("sbiboard", ("--times", "9")), f"#! can end\n#! end off\n{RACE}")
         must(f"{found}", status == 1 and found[0] == f"not ok line 1: can end{ASKS_OF_ALL}" and found[1].startswith("not ok line 2: end off: fails"))
 

@@ -101,6 +101,11 @@ class HtmlPages(Test):
             listed = rows(os.path.join(folder, "index.html"))
             failing = re.findall(r"^not ok \d+ - (.*)$", out, re.M)
             drawn = [it for it in listed if it[0]]
+            blocks = re.findall(r"(?m)^not ok \d+ - .*\n(?:  ---\n((?:.*\n)*?)  \.\.\.\n)?", out)
+            counts = [re.search(r"  failing: (\d+)\n  orders: (\d+)\n", it) for it in blocks]
+            records = [re.search(r'  record: "(.*)"\n', it) for it in blocks]
+            wanted = [(f"{count[1]} of {count[2]}" if count else "", record[1] if record else "") for count, record in zip(counts, records)]
+            must(f"{words}: {listed}, and not {wanted}", [(it[2], it[3]) for it in listed] == wanted and any(records))
             must(f"{words}: {listed}", [it[1] for it in listed] == failing and said == f"sbiboard: {folder}/index.html lists the points that fail ({len(listed)}, and {len(drawn)} drawn)\n")
             must(f"{words}: {os.listdir(folder)}", sorted(os.listdir(folder)) == sorted([*(f"{it[0][0]}.html" for it in drawn), "index.html"]) and len(drawn) >= len(files))
             for page, point, *_ in drawn:
@@ -109,6 +114,12 @@ class HtmlPages(Test):
                     line = re.search(r": line (\d+): ", point)
                     both = self.must_be_drawn(folder, read(os.path.join(self.work, name)), point, page)
                     must(f"{words}, {point}: with an order that passes: {both is not None}", (both is not None) == bool(FAILS[name][int(line[1]) if line else None]))
+
+        # (of orders of a seed it is told how many fail)
+        _, out, _ = self.called("test", "--times", "60", "--html", "some", "lost-wakeup.program")
+        failing = int(re.search(r"\n  failing: (\d+)\n", out)[1])
+        orders = [it[2] for it in rows(os.path.join(self.work, "some/index.html"))]
+        must(f"{orders}", orders == [f"{failing} of 60"] and 0 < failing < 60)
 
     def test_html__an_order_that_passes_is_near(self):
         """The order that passes parts from the one that fails where the bug is: the clear that came too late comes before the IPI."""
@@ -162,6 +173,7 @@ class HtmlPages(Test):
         for words, status, many in ((["--times", "0", "lost-wakeup.program"], 8, 2), (["--failed", "none", "a.sched"], 7, 1)):
             found = self.called("test", "--html", "pages", *words)
             listed = rows(os.path.join(self.work, "pages/index.html"))
+            must(f"{words}: another count", f"<h1>Points that fail: {many}</h1>" in read(os.path.join(self.work, "pages/index.html")))
             must(f"{words}: {found}, {listed}", found[0] == status and len(listed) == many and f"pages/index.html lists the points that fail ({many}, and 0 drawn)\n" in found[2])
 
     def test_html__older_points(self):
