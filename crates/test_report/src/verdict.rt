@@ -79,14 +79,14 @@ pub enum Extent {
         orders: u64,
         /// The seed.
         seed: u64,
-        /// How many of them the limit cut off, if the point is about ends.
+        /// How many of them the limit cut off.
         cut: u64,
     },
     /// At some runs on threads.
     Runs {
         /// How many.
         runs: u64,
-        /// How many of them the limit cut off, if the point is about ends.
+        /// How many of them the limit cut off.
         cut: u64,
     },
 }
@@ -104,29 +104,26 @@ impl fmt::Display for Extent {
                     None => Ok(()),
                 }
             }
-            Extent::Tried { orders, seed, cut } => {
+            Extent::Tried { orders, seed, .. } => {
                 let many = Grouped(u128::from(*orders));
-                write!(f, "{many} orders of unknown many, seed {seed}")?;
-                write_cut(f, *cut)
+                write!(f, "{many} orders of unknown many, seed {seed}")
             }
-            Extent::Runs { runs, cut } => {
-                write!(f, "{} runs on threads", Grouped(u128::from(*runs)))?;
-                write_cut(f, *cut)
+            Extent::Runs { runs, .. } => {
+                write!(f, "{} runs on threads", Grouped(u128::from(*runs)))
             }
         }
     }
 }
 
 /// How many orders the limit cut off.
-fn write_cut<W: fmt::Write>(f: &mut fmt::Formatter<W>, cut: u64) -> fmt::Result {
-    if cut == 0 {
-        return Ok(());
+fn write_cut<W: fmt::Write>(f: &mut fmt::Formatter<W>, reach: Extent) -> fmt::Result {
+    match reach {
+        Extent::Tried { cut, .. } | Extent::Runs { cut, .. } if cut > 0 => {
+            let many = Grouped(u128::from(cut));
+            write!(f, ", of which the limit cut off {many}")
+        }
+        _ => Ok(()),
     }
-    write!(
-        f,
-        ", of which the limit cut off {}",
-        Grouped(u128::from(cut))
-    )
 }
 
 /// The text of a verdict, behind the point's subject.
@@ -136,6 +133,8 @@ pub(crate) struct Said<'a> {
     pub(crate) reach: Extent,
     /// The point is about some order, not about each.
     pub(crate) is_some: bool,
+    /// The point is about ends, so that orders which the limit cut off are spared.
+    pub(crate) is_of_ends: bool,
 }
 
 impl fmt::Display for Said<'_> {
@@ -181,10 +180,15 @@ impl Said<'_> {
     ) -> fmt::Result {
         let reach = self.reach;
         match (reach, of_each) {
-            (Extent::Lines, _) => Ok(()),
-            (Extent::Explored, false) => write!(f, ": {found}"),
-            (_, true) => write!(f, ": {found} in {reach}"),
-            (_, false) => write!(f, ": {found} in some of {reach}"),
+            (Extent::Lines, _) => {}
+            (Extent::Explored, false) => write!(f, ": {found}")?,
+            (_, true) => write!(f, ": {found} in {reach}")?,
+            (_, false) => write!(f, ": {found} in some of {reach}")?,
+        }
+        if self.is_of_ends {
+            write_cut(f, reach)
+        } else {
+            Ok(())
         }
     }
 }
