@@ -117,13 +117,18 @@ impl fmt::Display for Extent {
 
 /// How many orders the limit cut off.
 fn write_cut<W: fmt::Write>(f: &mut fmt::Formatter<W>, reach: Extent) -> fmt::Result {
-    match reach {
-        Extent::Tried { cut, .. } | Extent::Runs { cut, .. } if cut > 0 => {
-            let many = Grouped(u128::from(cut));
-            write!(f, ", of which the limit cut off {many}")
-        }
-        _ => Ok(()),
+    let cut = match reach {
+        Extent::Tried { cut, .. } | Extent::Runs { cut, .. } => cut,
+        Extent::Lines | Extent::Explored | Extent::All(_) => 0,
+    };
+    if cut == 0 {
+        return Ok(());
     }
+    write!(
+        f,
+        ", of which the limit cut off {}",
+        Grouped(u128::from(cut))
+    )
 }
 
 /// The text of a verdict, behind the point's subject.

@@ -1,4 +1,4 @@
-use Rattle.std.proofs.Common.{◌≡◌, ℕ, List, [], sym, subst}
+use Rattle.std.proofs.Common.{◌≡◌, ℕ, List, [], sym, subst, arith}
 use Rattle.std.specs.Prelude.{◌≢◌, Bool, IfSome, Option, Some, None}
 use Rattle.std.proofs.lemmas.Result.{IfOk-weaker}
 use Rattle.conditions.specs.Condition.{Condition}
@@ -29,11 +29,12 @@ returns-in-Some g c =
     let holds : Bool = c.in-Some.holds in
     let met = subst (λ (found : Option Bool). IfSome found (λ holds. (tried : List Tried) → tried ≢ [] → Judges asked tried judged → AreSo asked holds tried))
     c.in-Some.is c.are_met.ensures.some in
+    let some : c.tried.result ≢ 0 = λ zero. absurd (let no = c.if-tried-eq0.false in omega arith) in
     let By : Verdict → Type 0 = λ verdict. (is_cut : Bool) → IsFoundIf harts asked judged ends (AreSo asked holds) is_cut verdict in
     IfOk-weaker c.of_need.result By (IsFoundOf harts asked judged ends c.args.is_cut)
     (λ verdict by tried judges ended.
     by c.args.is_cut tried
-    (met tried (some-tried tried c.tried.result (c.tried.ensures (asked_rule asked) tried judges.tally) c.if-tried-eq0.false) judges)
+    (met tried (some-tried tried c.tried.result (c.tried.ensures (asked_rule asked) tried judges.tally) some) judges)
     judges ended)
     c.of_need.ensures
 
