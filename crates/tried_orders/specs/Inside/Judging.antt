@@ -40,6 +40,12 @@ abbrev pub Lacks : Option Condition → NeedsMet → (is_second : Bool) → Type
 Lacks None met is_second = ⊥
 Lacks (Some condition) met is_second = IsLacking condition.rule met is_second
 
+-- this is the condition, which doesn't begin with `maybe`, and it lacks such a step
+pub record LacksIn (asked : Option Condition) (met : NeedsMet) (condition : Condition) (is_second : Bool) : Type 0 where
+  pub is : asked ≡ Some condition
+  pub meant : condition.is_maybe ≡ false
+  pub lacks : IsLacking condition.rule met is_second
+
 module _ (harts : ℕ) (asked : Option Condition) (judged : Judged) (ends : Ends) where
   -- the verdict is what is found of all records with these findings of which P holds
   abbrev pub IsFoundIf : (P : List Tried → Type 0) → (is_cut : Bool) → Verdict → Type 0
