@@ -10,11 +10,10 @@ use Rattle.outcome_statistics.specs.declared.judgement.Judgement.TheVariants as 
 use Rattle.outcome_statistics.specs.Findings.{AreEnded}
 use Rattle.outcome_statistics.specs.Judgements.{AreMet, IsFirstLacking, IsJudged, IsMaybe, IsSecondLacking}
 use Rattle.outcome_statistics.specs.Records.{Tried}
-use Rattle.test_report.specs.declared.missing.Missing.{Missing}
 use Rattle.test_report.specs.declared.verdict.Unjudged.TheVariants.{NoTime, NoOrder}
 use Rattle.test_report.specs.declared.verdict.Verdict.{Verdict}
-use Rattle.test_report.specs.declared.verdict.Verdict.TheVariants.{Holds, Fails, Vacuous, NotJudged}
-use Rattle.tried_orders.specs.Inside.Judging.{AreSo, Judges, Lacks}
+use Rattle.test_report.specs.declared.verdict.Verdict.TheVariants.{Holds, Fails, Vacuous, NoEnd, Misfit, NotJudged}
+use Rattle.tried_orders.specs.Inside.Judging.{AreSo, Judges, Lacks, TellsLack}
 use Rattle.tried_orders.specs.Verdicts.{AreItsNeeds, HasNoMisfit, IsFoundBy, Say, SayVacuous, lacking}
 
 -- ---- whether something was tried
@@ -127,14 +126,19 @@ module _ (harts : ℕ) (is_cut : Bool) (asked : Option Condition) (tried : List 
     },
   )
 
-  pub vacuous-of : (is_second : Bool) (verdict : Verdict) (missing : Missing) → verdict ≡ Vacuous missing → missing.is_second ≡ is_second → tried ≢ []
-      → ¬ IsMaybe asked → Lacks asked judged.met is_second → IsFoundBy harts is_cut asked tried verdict
-  vacuous-of is_second verdict missing is same some meant lacks = subst (IsFoundBy harts is_cut asked tried) (sym is) (
+  pub vacuous-of : (is_second : Bool) (verdict : Verdict) → TellsLack is_second verdict → tried ≢ [] → ¬ IsMaybe asked → Lacks asked judged.met is_second
+      → IsFoundBy harts is_cut asked tried verdict
+  vacuous-of is_second Holds by some meant lacks = absurd by
+  vacuous-of is_second Fails by some meant lacks = absurd by
+  vacuous-of is_second (Vacuous missing) by some meant lacks = (
     fits,
     record {
       some = some;
-      lacks = subst (λ (second : Bool). Say asked tried (lacking second)) (sym same)
+      lacks = subst (λ (second : Bool). Say asked tried (lacking second)) (sym by)
           (say (lacking is_second) (judged-by asked tried judged.met ends is_second lacks));
       meant = meant;
     },
   )
+  vacuous-of is_second NoEnd by some meant lacks = absurd by
+  vacuous-of is_second (Misfit word) by some meant lacks = absurd by
+  vacuous-of is_second (NotJudged why) by some meant lacks = absurd by

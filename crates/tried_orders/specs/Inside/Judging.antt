@@ -16,6 +16,7 @@ use Rattle.test_terms.specs.declared.options.Orders.{Orders}
 use Rattle.test_report.specs.Missing.{IsLacking}
 use Rattle.test_report.specs.declared.verdict.Extent.{Extent}
 use Rattle.test_report.specs.declared.verdict.Verdict.{Verdict}
+use Rattle.test_report.specs.declared.verdict.Verdict.TheVariants.{Holds, Fails, Vacuous, NoEnd, Misfit, NotJudged}
 use Rattle.tried_orders.specs.declared.points.Source.{Source}
 use Rattle.tried_orders.specs.declared.points.Source.TheVariants.{Seed, Threads}
 use Rattle.tried_orders.specs.Verdicts.{AreItsNeeds, AreTriedOf, IsFoundBy, TellsOrders, TellsRuns}
@@ -45,6 +46,15 @@ pub record LacksIn (asked : Option Condition) (met : NeedsMet) (condition : Cond
   pub is : asked ≡ Some condition
   pub meant : condition.is_maybe ≡ false
   pub lacks : IsLacking condition.rule met is_second
+
+-- the verdict tells that there is no step for the first pattern, or for the second one
+abbrev pub TellsLack : (is_second : Bool) → Verdict → Type 0
+TellsLack is_second Holds = ⊥
+TellsLack is_second Fails = ⊥
+TellsLack is_second (Vacuous missing) = missing.is_second ≡ is_second
+TellsLack is_second NoEnd = ⊥
+TellsLack is_second (Misfit word) = ⊥
+TellsLack is_second (NotJudged why) = ⊥
 
 module _ (harts : ℕ) (asked : Option Condition) (judged : Judged) (ends : Ends) where
   -- the verdict is what is found of all records with these findings of which P holds
