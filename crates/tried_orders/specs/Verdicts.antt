@@ -172,11 +172,12 @@ pub record AddsPoints (Tries : List Tried → Type 0) (Tells : List Tried → Ex
   pub tells : EachIs (Tells tried) told
 
 module _ (options : Options) (c : Config) (content : Content) (conditions : List Condition) (is_cut : Bool) (before after : FileReport) where
-  -- By the orders that the options ask for, one point more is found of each condition of a program.
+  -- By the orders that the options ask for (AreTriedOf), one point more is found of each condition of a program, or of the program
+  -- without any (AddsPoints); its extent has their number and seed, and how many the limit cut off (TellsOrders).
   abbrev pub AddsOrders : Type 0
   AddsOrders = AddsPoints (AreTriedOf c content options.seed options.orders is_cut) (TellsOrders options.seed) c.harts is_cut conditions
       before after
 
-  -- The same by as many runs on threads as the options ask for.
+  -- The same by as many runs on threads as the options ask for (AreRunsOf, TellsRuns).
   abbrev pub AddsRuns : Type 0
   AddsRuns = AddsPoints (AreRunsOf c content options.runs is_cut) TellsRuns c.harts is_cut conditions before after
