@@ -115,7 +115,7 @@ module _ (harts : ℕ) (is_cut : Bool) (asked : Option Condition) (tried : List 
       → IsMaybe asked ⊎ ((is_second : Bool) → ¬ Lacks asked judged.met is_second) → IsFoundBy harts is_cut asked tried verdict
   found-of true verdict is so needed = subst (IsFoundBy harts is_cut asked tried) (sym is) (
     fits,
-    say says.Holds (so.some, (so.met refl, elim needed [ inl maybe ↦ inl maybe | inr none ↦ inr (first-none asked judged.met none) ])),
+    say says.Holds (so.some, so.met refl, elim needed [ inl maybe ↦ inl maybe | inr none ↦ inr (first-none asked judged.met none) ]),
   )
   found-of false verdict is so needed = subst (IsFoundBy harts is_cut asked tried) (sym is) (
     fits,
