@@ -25,6 +25,8 @@ SATP = [8 << 60 | asid << 44 | 0x80001 for asid in (5, 5, 6)]
 # Bits of leaves, mostly good ones, and some flags of pointers.
 LEAF = [0xC7, 0xCF, 0xCF, 0xE7, 0xEF, 0xC3, 0xCB, 0x47, 0x87, 0xD7, 0xC5, 0x4B, 0]
 POINTER = [1, 1, 1, 0x21, 0x301, 0x11, 0x41, 0x81]
+CHANGES = [f"amo{it}{width}" for width in ("", ".w") for it in ("swap", "add", "and", "or", "xor", "min", "max", "minu", "maxu")]
+CHANGES += ["amocas", "store1", "store2", "store4"]
 SIZES = [0, 1, 2, 0xFFF, 0x1000, 0x1001, 0x2000, 0x200000, 0x40000000, ALL - 0xFFF, ALL - 1, ALL]
 
 
@@ -90,9 +92,9 @@ class Maker:
         return frame << 10 | self.any.choice(LEAF)
 
     def access(self):
-        name = self.any.choice(["load", "load", "fetch", "store"])
-        value = [self.any.randrange(256)] if name == "store" else []
-        self.add(self.hart(), name, self.address(), *value)
+        name = self.any.choice(["load", "load", "load", "fetch", "fetch", "store", "store", self.any.choice([*CHANGES])])
+        count = 0 if name in ("load", "fetch") else 2 if name == "amocas" else 1
+        self.add(self.hart(), name, self.address(), *(self.any.choice([self.any.randrange(256), self.any.getrandbits(64)]) for _ in range(count)))
 
     def map(self):
         """A hart writes an entry of a page table, by physical addresses."""

@@ -1,7 +1,7 @@
 """Small random programs, on boards of all kinds, and random conditions about their steps. A seed makes one program."""
 import random
 
-from board_model import ALL, BASE, FAILED, HSM, IPI, RAM, RFENCE, SRST, TIME
+from board_model import ALL, BASE, CHANGES, FAILED, HSM, IPI, RAM, RFENCE, SRST, TIME
 
 from .grammar import COUNTS, REPLIES
 from .judge import step_words
@@ -102,8 +102,9 @@ class Maker:
 
     def access(self):
         some = self.some
-        name = some.choice(["load", "load", "load", "store", "store", "fetch"])
-        return self.written(name, self.address(), *([any_number(some)] if name == "store" else []))
+        name = some.choice(["load", "load", "load", "store", "store", "fetch", some.choice([*CHANGES])])
+        numbers = 0 if name in ("load", "fetch") else 2 if name == "amocas" else 1
+        return self.written(name, self.address(), *(any_number(some) for _ in range(numbers)))
 
     def satp(self, root, mode=None):
         mode = self.some.choice([8, 8, 9, 0, 1]) if mode is None else mode

@@ -1,10 +1,11 @@
 -- Words of patterns that no step of a board can have in their places (profile).
-use Rattle.std.specs.Prelude.{◌≡◌, ◌≢◌, ℕ, ◌≤◌, ◌⊎◌, ◌==◌, ◌||◌, Bool, true, false, List, slice_get, Option, Some}
+use Rattle.std.specs.Prelude.{◌≡◌, ◌≢◌, ℕ, ◌≤◌, ◌⊎◌, ◌==◌, ◌||◌, not, Bool, true, false, List, slice_get, Option, Some}
+use Rattle.amo.specs.Names.{reads_by}
 use Rattle.sv39.specs.Causes.{access_fault, cause_number, misaligned, page_fault}
 use Rattle.sv39.specs.declared.cause.Kind.{Kind}
 use Rattle.sv39.specs.declared.cause.Kind.TheVariants as kinds
 use Rattle.script_lines.specs.declared.op_name.OpName.{OpName}
-use Rattle.script_lines.specs.declared.op_name.OpName.TheVariants.{Ecall, Load, Store, Fetch, Satp, Sie, Sstatus, Sip, Clearssip, Sfence, Fencei, Wfi, Poll, Serve, Advance, Tick}
+use Rattle.script_lines.specs.declared.op_name.OpName.TheVariants.{Ecall, Load, Store, Fetch, Satp, Sie, Sstatus, Sip, Clearssip, Sfence, Fencei, Wfi, Amo, Poll, Serve, Advance, Tick}
 use Rattle.script_lines.specs.declared.said_name.SaidName.{SaidName}
 use Rattle.script_lines.specs.declared.said_name.SaidName.TheVariants as saids
 use Rattle.condition_script.specs.declared.items.Item.{Item}
@@ -57,8 +58,8 @@ ReplyCanHave said place (Below n) = (said ≡ saids.Ret) × (place ≡ 1) × (n 
 ReplyCanHave said place Absent = ⊥
 ReplyCanHave said place (Word name) = ⊥
 
--- Whether an accepted operation can have this reply. A call returns, waits or doesn't return (SBI 3). A load and a
--- fetch have a value or a fault, and a store is done or has a fault (Privileged 4.1.8). A poll returns, and a serve is
+-- Whether an accepted operation can have this reply. A call returns, waits or doesn't return (SBI 3). A load, a
+-- fetch and an AMO have a value or a fault, and a store is done or has a fault (Privileged 4.1.8). A poll returns, and a serve is
 -- served. An advance enters, moves, or returns from a suspend (SBI 9). A read of sip has a value. All else is done.
 abbrev pub is_reply_to : OpName → SaidName → Bool
 is_reply_to Ecall saids.Ret = true
@@ -70,6 +71,9 @@ is_reply_to Store saids.Done = true
 is_reply_to Store saids.Fault = true
 is_reply_to Fetch saids.Value = true
 is_reply_to Fetch saids.Fault = true
+is_reply_to (Amo name) saids.Value = reads_by name
+is_reply_to (Amo name) saids.Done = not (reads_by name)
+is_reply_to (Amo name) saids.Fault = true
 is_reply_to Satp saids.Done = true
 is_reply_to Sie saids.Done = true
 is_reply_to Sstatus saids.Done = true
@@ -86,10 +90,16 @@ is_reply_to Advance saids.Ret = true
 is_reply_to Tick saids.Done = true
 is_reply_to op said = false
 
+-- whether an operation of this name is a store, an AMO or a compare-and-swap
+abbrev pub writes : OpName → Bool
+writes Store = true
+writes (Amo name) = true
+writes op = false
+
 -- Whether a number is the cause of a fault of this access.
 abbrev pub IsCauseBy : OpName → ℕ → Type 0
 IsCauseBy op n =
-    (op ≡ Load → is_cause_of kinds.Load n ≡ true) × (op ≡ Store → is_cause_of kinds.Store n ≡ true)
+    (op ≡ Load → is_cause_of kinds.Load n ≡ true) × (writes op ≡ true → is_cause_of kinds.Store n ≡ true)
     × (op ≡ Fetch → is_cause_of kinds.Fetch n ≡ true)
 
 -- Whether `sip` can read a number: SSIP is bit 1, STIP bit 5 (Privileged 4.1.3).

@@ -149,6 +149,11 @@ fn is_reply_to(op: OpName, said: SaidName) -> bool
         OpName::Ecall => matches!(said, SaidName::Ret | SaidName::Waiting | SaidName::Gone),
         OpName::Load | OpName::Fetch => matches!(said, SaidName::Value | SaidName::Fault),
         OpName::Store => matches!(said, SaidName::Done | SaidName::Fault),
+        OpName::Amo(name) => match said {
+            SaidName::Value => name.reads(),
+            SaidName::Done => !name.reads(),
+            _ => said == SaidName::Fault,
+        },
         OpName::Sip => said == SaidName::Value,
         OpName::Poll => said == SaidName::Ret,
         OpName::Serve => said == SaidName::Served,
@@ -388,7 +393,7 @@ fn is_cause_by(op: OpName, n: u64) -> bool
 {
     match op {
         OpName::Load => is_cause_of(Kind::Load, n),
-        OpName::Store => is_cause_of(Kind::Store, n),
+        OpName::Store | OpName::Amo(_) => is_cause_of(Kind::Store, n),
         OpName::Fetch => is_cause_of(Kind::Fetch, n),
         _ => true,
     }

@@ -8,6 +8,8 @@ use Rattle.std.proofs.lemmas.Bool.{and_parts, eqb-true}
 use Rattle.std.proofs.lemmas.Fmt.{decimal_is_IsNumeral, digits_is_IsNumeral}
 use Rattle.std.proofs.lemmas.List.{append_assoc, append-nil, length-map}
 use Rattle.std.proofs.lemmas.List.FromFn.{fill_by_all}
+use Rattle.amo.specs.declared.amo.Amo.TheVariants as amos
+use Rattle.amo.specs.declared.function.AmoFunction.TheVariants as functions
 use Rattle.sbi_abi.specs.declared.call.Regs.{Regs}
 use Rattle.sv39.specs.declared.cause.Cause.{Cause}
 use Rattle.sv39.specs.declared.cause.Cause.TheVariants as causes
@@ -19,7 +21,7 @@ use Rattle.board_terms.specs.declared.config.Config.{Config}
 use Rattle.board_terms.specs.declared.op.Actor.{Actor}
 use Rattle.board_terms.specs.declared.op.Actor.TheVariants.{Hart, Clock}
 use Rattle.board_terms.specs.declared.op.Op.{Op}
-use Rattle.board_terms.specs.declared.op.Op.TheVariants.{Ecall, Load, Store, Fetch, WriteSatp, WriteSie, WriteSstatusSie, ReadSip, ClearSsip, Sfence, FenceI, Wfi, Poll, Serve, Advance, Tick}
+use Rattle.board_terms.specs.declared.op.Op.TheVariants.{Ecall, Load, Store, Fetch, Amo, WriteSatp, WriteSie, WriteSstatusSie, ReadSip, ClearSsip, Sfence, FenceI, Wfi, Poll, Serve, Advance, Tick}
 use Rattle.board_terms.specs.declared.reply.Refusal.{Refusal}
 use Rattle.board_terms.specs.declared.reply.Refusal.TheVariants as refusals
 use Rattle.board_terms.specs.declared.reply.Reply.{Reply}
@@ -118,6 +120,72 @@ op_read_back (Store va value) fits =
 op_read_back (Fetch va) fits =
     spelled form_of (codes "fetch") (hex va ∷ []) _ (Some va ∷ []) refl (name_plain (codes "fetch") (λ e. cc) (omega arith)) (omega arith) (omega arith)
     ((number_read_back last_number va fits (omega arith)).1, tt)
+op_read_back (Amo at (amos.Double functions.Swap n)) fits =
+    spelled form_of (codes "amoswap") (hex at ∷ hex n ∷ []) _ (Some at ∷ Some n ∷ []) refl (name_plain (codes "amoswap") (λ e. cc) (omega arith)) (omega arith) (omega arith)
+    ((number_read_back last_number at fits.0 (omega arith)).1, ((number_read_back last_number n fits.1.0 (omega arith)).1, tt))
+op_read_back (Amo at (amos.Double functions.Add n)) fits =
+    spelled form_of (codes "amoadd") (hex at ∷ hex n ∷ []) _ (Some at ∷ Some n ∷ []) refl (name_plain (codes "amoadd") (λ e. cc) (omega arith)) (omega arith) (omega arith)
+    ((number_read_back last_number at fits.0 (omega arith)).1, ((number_read_back last_number n fits.1.0 (omega arith)).1, tt))
+op_read_back (Amo at (amos.Double functions.And n)) fits =
+    spelled form_of (codes "amoand") (hex at ∷ hex n ∷ []) _ (Some at ∷ Some n ∷ []) refl (name_plain (codes "amoand") (λ e. cc) (omega arith)) (omega arith) (omega arith)
+    ((number_read_back last_number at fits.0 (omega arith)).1, ((number_read_back last_number n fits.1.0 (omega arith)).1, tt))
+op_read_back (Amo at (amos.Double functions.Or n)) fits =
+    spelled form_of (codes "amoor") (hex at ∷ hex n ∷ []) _ (Some at ∷ Some n ∷ []) refl (name_plain (codes "amoor") (λ e. cc) (omega arith)) (omega arith) (omega arith)
+    ((number_read_back last_number at fits.0 (omega arith)).1, ((number_read_back last_number n fits.1.0 (omega arith)).1, tt))
+op_read_back (Amo at (amos.Double functions.Xor n)) fits =
+    spelled form_of (codes "amoxor") (hex at ∷ hex n ∷ []) _ (Some at ∷ Some n ∷ []) refl (name_plain (codes "amoxor") (λ e. cc) (omega arith)) (omega arith) (omega arith)
+    ((number_read_back last_number at fits.0 (omega arith)).1, ((number_read_back last_number n fits.1.0 (omega arith)).1, tt))
+op_read_back (Amo at (amos.Double functions.Min n)) fits =
+    spelled form_of (codes "amomin") (hex at ∷ hex n ∷ []) _ (Some at ∷ Some n ∷ []) refl (name_plain (codes "amomin") (λ e. cc) (omega arith)) (omega arith) (omega arith)
+    ((number_read_back last_number at fits.0 (omega arith)).1, ((number_read_back last_number n fits.1.0 (omega arith)).1, tt))
+op_read_back (Amo at (amos.Double functions.Max n)) fits =
+    spelled form_of (codes "amomax") (hex at ∷ hex n ∷ []) _ (Some at ∷ Some n ∷ []) refl (name_plain (codes "amomax") (λ e. cc) (omega arith)) (omega arith) (omega arith)
+    ((number_read_back last_number at fits.0 (omega arith)).1, ((number_read_back last_number n fits.1.0 (omega arith)).1, tt))
+op_read_back (Amo at (amos.Double functions.Minu n)) fits =
+    spelled form_of (codes "amominu") (hex at ∷ hex n ∷ []) _ (Some at ∷ Some n ∷ []) refl (name_plain (codes "amominu") (λ e. cc) (omega arith)) (omega arith) (omega arith)
+    ((number_read_back last_number at fits.0 (omega arith)).1, ((number_read_back last_number n fits.1.0 (omega arith)).1, tt))
+op_read_back (Amo at (amos.Double functions.Maxu n)) fits =
+    spelled form_of (codes "amomaxu") (hex at ∷ hex n ∷ []) _ (Some at ∷ Some n ∷ []) refl (name_plain (codes "amomaxu") (λ e. cc) (omega arith)) (omega arith) (omega arith)
+    ((number_read_back last_number at fits.0 (omega arith)).1, ((number_read_back last_number n fits.1.0 (omega arith)).1, tt))
+op_read_back (Amo at (amos.Half functions.Swap n)) fits =
+    spelled form_of (codes "amoswap.w") (hex at ∷ hex n ∷ []) _ (Some at ∷ Some n ∷ []) refl (name_plain (codes "amoswap.w") (λ e. cc) (omega arith)) (omega arith) (omega arith)
+    ((number_read_back last_number at fits.0 (omega arith)).1, ((number_read_back last_number n fits.1.0 (omega arith)).1, tt))
+op_read_back (Amo at (amos.Half functions.Add n)) fits =
+    spelled form_of (codes "amoadd.w") (hex at ∷ hex n ∷ []) _ (Some at ∷ Some n ∷ []) refl (name_plain (codes "amoadd.w") (λ e. cc) (omega arith)) (omega arith) (omega arith)
+    ((number_read_back last_number at fits.0 (omega arith)).1, ((number_read_back last_number n fits.1.0 (omega arith)).1, tt))
+op_read_back (Amo at (amos.Half functions.And n)) fits =
+    spelled form_of (codes "amoand.w") (hex at ∷ hex n ∷ []) _ (Some at ∷ Some n ∷ []) refl (name_plain (codes "amoand.w") (λ e. cc) (omega arith)) (omega arith) (omega arith)
+    ((number_read_back last_number at fits.0 (omega arith)).1, ((number_read_back last_number n fits.1.0 (omega arith)).1, tt))
+op_read_back (Amo at (amos.Half functions.Or n)) fits =
+    spelled form_of (codes "amoor.w") (hex at ∷ hex n ∷ []) _ (Some at ∷ Some n ∷ []) refl (name_plain (codes "amoor.w") (λ e. cc) (omega arith)) (omega arith) (omega arith)
+    ((number_read_back last_number at fits.0 (omega arith)).1, ((number_read_back last_number n fits.1.0 (omega arith)).1, tt))
+op_read_back (Amo at (amos.Half functions.Xor n)) fits =
+    spelled form_of (codes "amoxor.w") (hex at ∷ hex n ∷ []) _ (Some at ∷ Some n ∷ []) refl (name_plain (codes "amoxor.w") (λ e. cc) (omega arith)) (omega arith) (omega arith)
+    ((number_read_back last_number at fits.0 (omega arith)).1, ((number_read_back last_number n fits.1.0 (omega arith)).1, tt))
+op_read_back (Amo at (amos.Half functions.Min n)) fits =
+    spelled form_of (codes "amomin.w") (hex at ∷ hex n ∷ []) _ (Some at ∷ Some n ∷ []) refl (name_plain (codes "amomin.w") (λ e. cc) (omega arith)) (omega arith) (omega arith)
+    ((number_read_back last_number at fits.0 (omega arith)).1, ((number_read_back last_number n fits.1.0 (omega arith)).1, tt))
+op_read_back (Amo at (amos.Half functions.Max n)) fits =
+    spelled form_of (codes "amomax.w") (hex at ∷ hex n ∷ []) _ (Some at ∷ Some n ∷ []) refl (name_plain (codes "amomax.w") (λ e. cc) (omega arith)) (omega arith) (omega arith)
+    ((number_read_back last_number at fits.0 (omega arith)).1, ((number_read_back last_number n fits.1.0 (omega arith)).1, tt))
+op_read_back (Amo at (amos.Half functions.Minu n)) fits =
+    spelled form_of (codes "amominu.w") (hex at ∷ hex n ∷ []) _ (Some at ∷ Some n ∷ []) refl (name_plain (codes "amominu.w") (λ e. cc) (omega arith)) (omega arith) (omega arith)
+    ((number_read_back last_number at fits.0 (omega arith)).1, ((number_read_back last_number n fits.1.0 (omega arith)).1, tt))
+op_read_back (Amo at (amos.Half functions.Maxu n)) fits =
+    spelled form_of (codes "amomaxu.w") (hex at ∷ hex n ∷ []) _ (Some at ∷ Some n ∷ []) refl (name_plain (codes "amomaxu.w") (λ e. cc) (omega arith)) (omega arith) (omega arith)
+    ((number_read_back last_number at fits.0 (omega arith)).1, ((number_read_back last_number n fits.1.0 (omega arith)).1, tt))
+op_read_back (Amo at (amos.Cas expected value)) fits =
+    spelled form_of (codes "amocas") (hex at ∷ hex expected ∷ hex value ∷ []) _ (Some at ∷ Some expected ∷ Some value ∷ []) refl (name_plain (codes "amocas") (λ e. cc) (omega arith)) (omega arith) (omega arith)
+    ((number_read_back last_number at fits.0 (omega arith)).1, ((number_read_back last_number expected fits.1.0 (omega arith)).1, ((number_read_back last_number value fits.1.1.0 (omega arith)).1, tt)))
+op_read_back (Amo at (amos.Store1 n)) fits =
+    spelled form_of (codes "store1") (hex at ∷ hex n ∷ []) _ (Some at ∷ Some n ∷ []) refl (name_plain (codes "store1") (λ e. cc) (omega arith)) (omega arith) (omega arith)
+    ((number_read_back last_number at fits.0 (omega arith)).1, ((number_read_back last_number n fits.1.0 (omega arith)).1, tt))
+op_read_back (Amo at (amos.Store2 n)) fits =
+    spelled form_of (codes "store2") (hex at ∷ hex n ∷ []) _ (Some at ∷ Some n ∷ []) refl (name_plain (codes "store2") (λ e. cc) (omega arith)) (omega arith) (omega arith)
+    ((number_read_back last_number at fits.0 (omega arith)).1, ((number_read_back last_number n fits.1.0 (omega arith)).1, tt))
+op_read_back (Amo at (amos.Store4 n)) fits =
+    spelled form_of (codes "store4") (hex at ∷ hex n ∷ []) _ (Some at ∷ Some n ∷ []) refl (name_plain (codes "store4") (λ e. cc) (omega arith)) (omega arith) (omega arith)
+    ((number_read_back last_number at fits.0 (omega arith)).1, ((number_read_back last_number n fits.1.0 (omega arith)).1, tt))
 op_read_back (WriteSatp value) fits =
     spelled form_of (codes "satp") (hex value ∷ []) _ (Some value ∷ []) refl (name_plain (codes "satp") (λ e. cc) (omega arith)) (omega arith) (omega arith)
     ((number_read_back last_number value fits (omega arith)).1, tt)

@@ -99,6 +99,7 @@ impl Leaf {
             Kind::Fetch => self.x,
             Kind::Load => self.r,
             Kind::Store => self.w && self.d,
+            Kind::Amo => self.r && self.w && self.d,
         }
     }
 }

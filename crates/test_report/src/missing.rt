@@ -260,6 +260,7 @@ fn does(op: Op) -> &'static str {
         Op::Load(_) => "loads",
         Op::Store(..) => "stores",
         Op::Fetch(_) => "fetches",
+        Op::Amo(_, amo) => { if amo.reads() { "changes" } else { "stores" } }
         Op::WriteSatp(_) => "writes satp",
         Op::WriteSie(_) => "writes sie",
         Op::WriteSstatusSie(_) => "writes sstatus",

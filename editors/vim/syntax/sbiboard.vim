@@ -3,7 +3,7 @@ if exists('b:current_syntax')
   finish
 endif
 
-let s:operations = 'ecall load fetch store satp sfence fencei sie sstatus sip clearssip wfi poll serve advance tick'
+let s:operations = 'ecall load fetch store store1 store2 store4 amocas amoswap\%(\.w\)\? amoadd\%(\.w\)\? amoand\%(\.w\)\? amoor\%(\.w\)\? amoxor\%(\.w\)\? amomin\%(\.w\)\? amomax\%(\.w\)\? amominu\%(\.w\)\? amomaxu\%(\.w\)\? satp sfence fencei sie sstatus sip clearssip wfi poll serve advance tick'
 let s:replies = 'ret entry waiting gone value fault served moved done refused'
 let s:rules = 'never some each before can end'
 let s:ends = 'off history-full quiet stuck'
