@@ -1,2 +1,3 @@
 pub mod Members
+pub mod Moves
 pub mod Listing

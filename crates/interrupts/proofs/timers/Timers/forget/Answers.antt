@@ -1,8 +1,15 @@
 use Rattle.std.proofs.Common.{◌≡◌, length, get_or, None, ap, ◌∙◌, sym, arith}
 use Rattle.interrupts.specs.Timing.{Timing, deadline_of}
 use Rattle.interrupts.specs.Inside.Listed.{is_ahead}
-use Rattle.interrupts.proofs.Listing.{later-without, listed-forgotten}
+use Rattle.interrupts.proofs.Listing.{later-without, listed-forgotten, own-deadline}
 use Rattle.interrupts.proofs.timers.Timers.forget.Goals as goal
+
+pub take_out_where-requires : goal.take_out_where-requires
+take_out_where-requires c =
+    let kept = c.self.invariant in
+    let at = c.self.inside in
+    let long = ap (λ (t : Timing). length t.deadlines) c.self.view_is in
+    own-deadline at.time at.deadlines.items at.ahead at.due c.args.h (omega (arith, long, c.requires)) kept.1 kept.2
 
 pub invariant_of-self : goal.invariant_of-self
 invariant_of-self c =
