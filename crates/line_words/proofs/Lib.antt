@@ -1,4 +1,5 @@
 pub mod DigitValues
+pub mod HexLanes
 pub mod LinesOf
 pub mod Numerals
 pub mod Spacing
