@@ -1,5 +1,5 @@
 //! Hexadecimal digits, sixteen bytes at a time: no branch depends on how many digits a number has.
-ghost use Rattle.std.specs.Prelude.{◌≡◌, ◌≤◌, ◌%◌, ◌==◌, IfSome, length, map, not, take};
+ghost use Rattle.std.specs.Prelude.{◌≡◌, ◌<◌, ◌≤◌, ◌%◌, ◌^◌, ◌==◌, IfSome, length, map, not, take};
 ghost use Rattle.std.specs.Int.Digits.{number_from_digits};
 ghost use Rattle.std.specs.List.{prefix_len};
 ghost use Rattle.std.specs.Str.Parse.{IsNumeral, digits_value};
@@ -16,6 +16,7 @@ const OTHER: u8 = 16;
 pub fn hex_of_sixteen(bytes: &[u8]) -> Option<(u64, usize)>
     requires { 16 ≤ length bytes.now }
     ensures count { IfSome result (λ found. found.1 ≤ 16) }
+    ensures small { IfSome result (λ found. found.0 < 2 ^ 64) }
     ensures spelled { IfSome result
         (λ found. IsNumeral 16 (take found.1 bytes.now) × (found.0 ≡ digits_value 16 (take found.1 bytes.now))) }
 {
