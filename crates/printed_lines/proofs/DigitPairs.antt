@@ -1,8 +1,7 @@
--- The tables of the two digits of each small number.
-use Rattle.std.proofs.Common.{◌≡◌, ℕ, zero, suc, ◌+◌, ◌-◌, ◌*◌, ◌/◌, ◌%◌, ◌<◌, false, Bool, true, ◌&&◌, T, eqb, List, get_or, arith, inl, inr, eq-zero-or-pos, eqb→eq}
-use Rattle.std.specs.Fmt.{digit_glyph}
+-- The table of the two digits of each small number.
+use Rattle.std.proofs.Common.{◌≡◌, ℕ, zero, suc, ◌+◌, ◌-◌, ◌*◌, ◌/◌, ◌%◌, ◌<◌, Bool, true, ◌&&◌, T, eqb, List, get_or, arith, inl, inr, eq-zero-or-pos, eqb→eq}
 use lib.Ieee.Fits.{and_l, and_r}
-use Rattle.printed_lines.specs.declared.line_text.TheConstants.{DECIMAL_PAIRS, HEX_PAIRS}
+use Rattle.printed_lines.specs.declared.line_text.TheConstants.{DECIMAL_PAIRS}
 
 -- in this table the digits of each number below n stand side by side
 abbrev are_pairs : (table : List ℕ) (high low : ℕ → ℕ) → ℕ → Bool
@@ -21,6 +20,3 @@ below table high low (suc n) p t h =
 
 pub decimal_pairs_at : (p : ℕ) → p < 100 → (get_or DECIMAL_PAIRS (p * 2) 0 ≡ 48 + p / 10) × (get_or DECIMAL_PAIRS (p * 2 + 1) 0 ≡ 48 + p % 10)
 decimal_pairs_at p h = below DECIMAL_PAIRS (λ p. 48 + p / 10) (λ p. 48 + p % 10) 100 p tt h
-
-pub hex_pairs_at : (p : ℕ) → p < 256 → (get_or HEX_PAIRS (p * 2) 0 ≡ digit_glyph false (p / 16)) × (get_or HEX_PAIRS (p * 2 + 1) 0 ≡ digit_glyph false (p % 16))
-hex_pairs_at p h = below HEX_PAIRS (λ p. digit_glyph false (p / 16)) (λ p. digit_glyph false (p % 16)) 256 p tt h

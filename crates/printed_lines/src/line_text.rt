@@ -1,14 +1,17 @@
 //! A line under composition, number by number and word by word.
-ghost use Rattle.std.specs.Prelude.{◌≡◌, ℕ, ◌+◌, ◌/◌, ◌%◌, ◌^◌, ◌<◌, ◌≤◌, List, [], ◌∷◌, ◌++◌, false, length, set, max, take, drop, replicate, decimal};
+ghost use Rattle.std.specs.Prelude.{◌≡◌, ℕ, ◌+◌, ◌/◌, ◌%◌, ◌^◌, ◌<◌, ◌≤◌, List, [], ◌∷◌, ◌++◌, false, length, max, take, drop, replicate, decimal};
 ghost use Rattle.std.specs.Fmt.{digit_glyph, digits, signed_decimal};
+ghost use Rattle.std.specs.Simd.Lanes.{put_chunk};
 ghost use Rattle.printed_lines.specs.Columns.{right, left, hex_column};
 ghost use Rattle.printed_lines.specs.LineText.{decimal_room, hex_column_room, hex_column_work, hex_room, page_room, signed_room, with_words};
 ghost use Rattle.printed_lines.specs.Sinks.{Puts};
 ghost use Rattle.printed_lines.specs.Words.{hex, as_line};
 
+use crate::hex_glyphs::hex_glyphs;
 use crate::sink::{Failed, Sink, write_all};
 use itoa::Buffer;
 use std::marker::Model;
+use std::simd::prelude::*;
 
 /// The most bytes of a page of lines.
 pub const CAPACITY: usize = 1024;
@@ -18,10 +21,6 @@ static HEX_DIGITS: [u8; 16] = *b"0123456789abcdef";
 /// The two decimal digits of each number below 100.
 static DECIMAL_PAIRS: [u8; 200] =
     *b"00010203040506070809101112131415161718192021222324252627282930313233343536373839404142434445464748495051525354555657585960616263646566676869707172737475767778798081828384858687888990919293949596979899";
-
-/// The two hexadecimal digits of each number below 256.
-static HEX_PAIRS: [u8; 512] =
-    *b"000102030405060708090a0b0c0d0e0f101112131415161718191a1b1c1d1e1f202122232425262728292a2b2c2d2e2f303132333435363738393a3b3c3d3e3f404142434445464748494a4b4c4d4e4f505152535455565758595a5b5c5d5e5f606162636465666768696a6b6c6d6e6f707172737475767778797a7b7c7d7e7f808182838485868788898a8b8c8d8e8f909192939495969798999a9b9c9d9e9fa0a1a2a3a4a5a6a7a8a9aaabacadaeafb0b1b2b3b4b5b6b7b8b9babbbcbdbebfc0c1c2c3c4c5c6c7c8c9cacbcccdcecfd0d1d2d3d4d5d6d7d8d9dadbdcdddedfe0e1e2e3e4e5e6e7e8e9eaebecedeeeff0f1f2f3f4f5f6f7f8f9fafbfcfdfeff";
 
 /// A line, or several lines, under composition.
 #[derive(Drop)]
@@ -149,7 +148,7 @@ impl LineText {
 
     /// Appends a blank and the number, in hexadecimal digits after `0x`.
     #[inline(always)]
-    #[tactic(auto, using(crate::proofs::Hex::hex_small, crate::proofs::Hex::hex_two))]
+    #[tactic(auto, using(crate::proofs::Hex::hex_small))]
     pub fn hex(&mut self, n: u64)
         requires { length self.old + hex_room ≤ CAPACITY }
         ensures text { self.new ≡ self.old ++ 32 ∷ hex n }
@@ -157,9 +156,6 @@ impl LineText {
     {
         if n < 16 {
             self.text(&[b' ', b'0', b'x', hex_digit(n)]);
-        } else if n < 256 {
-            let [high, low] = hex_pair(n);
-            self.text(&[b' ', b'0', b'x', high, low]);
         } else {
             self.text(b" 0x");
             self.hex_digits(n);
@@ -253,9 +249,9 @@ impl LineText {
         ensures text { self.new ≡ self.old ++ digits 16 false n }
         ensures len { length self.new ≤ length self.old + 16 }
     {
-        let end = self.len + hex_places(n);
-        write_hex(n, &mut self.bytes, self.len, end);
-        self.len = end;
+        let places = hex_places(n);
+        write_sixteen(hex_glyphs(n, places), &mut self.bytes, self.len);
+        self.len += places;
     }
 }
 
@@ -335,64 +331,13 @@ fn hex_places(n: u64) -> usize
     (n.ilog2() / 4 + 1) as usize
 }
 
-/// Writes the hexadecimal digits of `n` from `start` to `end`, from the last to the first.
+/// Writes 16 bytes from `start` on.
 #[inline(always)]
-fn write_hex(n: u64, bytes: &mut [u8], start: usize, end: usize)
-    requires places { start + length (digits 16 false n) ≡ end }
-    requires room { end ≤ length bytes.old }
-    ensures { bytes.new ≡ take start bytes.old ++ (digits 16 false n ++ drop end bytes.old) }
+fn write_sixteen(glyphs: u8x16, bytes: &mut [u8], start: usize)
+    requires { start + 16 ≤ length bytes.old }
+    ensures { bytes.new ≡ put_chunk start bytes.old glyphs }
 {
-    let mut rest = n;
-    let mut at = end;
-    while rest >= 65_536 {
-        at -= 4;
-        write_hex_pair(rest % 256, bytes, at + 2);
-        write_hex_pair(rest / 256 % 256, bytes, at);
-        rest /= 65_536;
-    }
-    if rest < 256 {
-        write_short_hex(rest, bytes, start, at);
-    } else {
-        write_hex_pair(rest % 256, bytes, at - 2);
-        write_short_hex(rest / 256, bytes, start, at - 2);
-    }
-}
-
-/// Writes up to two hexadecimal digits from `start` to `end`.
-#[inline(always)]
-fn write_short_hex(n: u64, bytes: &mut [u8], start: usize, end: usize)
-    requires small { n < 256 }
-    requires places { start + length (digits 16 false n) ≡ end }
-    requires room { end ≤ length bytes.old }
-    ensures { bytes.new ≡ take start bytes.old ++ (digits 16 false n ++ drop end bytes.old) }
-{
-    if n >= 16 {
-        write_hex_pair(n, bytes, start);
-    } else {
-        bytes[start] = hex_digit(n);
-    }
-}
-
-/// Writes two hexadecimal digits.
-#[inline(always)]
-fn write_hex_pair(pair: u64, bytes: &mut [u8], at: usize)
-    requires { (pair < 256) × (at + 2 ≤ length bytes.old) }
-    ensures { bytes.new
-        ≡ set (set bytes.old (at + 1) (digit_glyph false (pair % 16))) at (digit_glyph false (pair / 16)) }
-{
-    let [high, low] = hex_pair(pair);
-    bytes[at + 1] = low;
-    bytes[at] = high;
-}
-
-/// The two hexadecimal digits of a number below 256.
-#[inline(always)]
-fn hex_pair(pair: u64) -> [u8; 2]
-    requires { pair < 256 }
-    ensures { result ≡ digit_glyph false (pair / 16) ∷ digit_glyph false (pair % 16) ∷ [] }
-{
-    let from = pair as usize * 2;
-    [HEX_PAIRS[from], HEX_PAIRS[from + 1]]
+    glyphs.copy_to_slice(&mut bytes[start..]);
 }
 
 /// The byte of a hexadecimal digit, in lower case.

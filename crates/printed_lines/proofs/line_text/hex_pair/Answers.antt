@@ -1,8 +1,0 @@
-use Rattle.std.proofs.Common.{refl}
-use Rattle.printed_lines.proofs.DigitPairs.{hex_pairs_at}
-use Rattle.printed_lines.proofs.line_text.hex_pair.Goals as goal
-
-pub returns : goal.returns
-returns c =
-    let p = hex_pairs_at c.args.pair c.requires in
-    rw (p.0, p.1) refl
