@@ -67,7 +67,7 @@ length-hex (suc k) n low high fits =
       | inr large ↦ omega (arith, length-hex-step n large fits, length-hex k (n / 16) (omega arith) (omega arith) (omega arith))
     ]
 
-pow-four : (q : ℕ) → 2 ^ (4 * q) ≡ 16 ^ q
+pub pow-four : (q : ℕ) → 2 ^ (4 * q) ≡ 16 ^ q
 pow-four zero = refl
 pow-four (suc q) = let e : 4 * suc q ≡ 4 * q + 4 = omega arith in rw (e, pow-add 2 (4 * q) 4, pow-four q) (omega arith)
 

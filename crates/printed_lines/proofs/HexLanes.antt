@@ -13,7 +13,7 @@ use Rattle.std.proofs.lemmas.Nat.{and_mask, pow-add, shr-shr}
 use Rattle.std.proofs.lemmas.Simd.{put_chunk_is, splat_is_map, tops_compared, zip2_of_maps}
 use lib.Lanes.{pick_l, put_chunk, sel_l, zip2}
 use Rattle.printed_lines.specs.HexLanes.{nibbles}
-use Rattle.printed_lines.proofs.Hex.{hex-step, hex_small, length-hex-one, length-hex-step}
+use Rattle.printed_lines.proofs.Hex.{hex-step, hex_small, length-hex-one, length-hex-step, pow-four}
 
 -- ---- the sixteen lanes of a number
 
@@ -84,10 +84,6 @@ glyphs_are ds long below =
     zip2_of_maps more (λ x. x) (λ x. cond (ltb x 10) 48 87) ds (sym (map-id ds)) zeros ∙ all_glyphs ds below
 
 -- ---- the digits at the front
-
-pow-four : (q : ℕ) → 2 ^ (4 * q) ≡ 16 ^ q
-pow-four zero = refl
-pow-four (suc q) = let e : 4 * suc q ≡ 4 * q + 4 = omega arith in rw (e, pow-add 2 (4 * q) 4, pow-four q) (omega arith)
 
 scaled-at : (n p q : ℕ) → n * 16 ^ q / 16 ^ (p + q) % 16 ≡ n / 16 ^ p % 16
 scaled-at n p q =

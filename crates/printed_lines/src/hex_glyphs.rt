@@ -1,5 +1,5 @@
 //! The hexadecimal digits of a number, all at once: no branch depends on how many they are.
-ghost use Rattle.std.specs.Prelude.{◌≡◌, ◌<◌, ◌^◌, false, length, map, take};
+ghost use Rattle.std.specs.Prelude.{◌≡◌, ◌<◌, ◌≤◌, false, length, map, take};
 ghost use Rattle.std.specs.Fmt.{digit_glyph, digits};
 ghost use Rattle.std.specs.Int.Digits.{AllBelowBase};
 ghost use Rattle.printed_lines.specs.HexLanes.{nibbles};
@@ -9,7 +9,9 @@ use std::simd::prelude::*;
 /// The hexadecimal digits of a number that has so many, in lower case, and zeros behind them.
 #[inline(always)]
 pub fn hex_glyphs(n: u64, places: usize) -> u8x16
-    requires { length (digits 16 false n) ≡ places }
+    requires places { length (digits 16 false n) ≡ places }
+    requires some { 0 < places }
+    requires most { places ≤ 16 }
     ensures { take places result ≡ digits 16 false n }
 {
     glyphs(halves(n << (64 - 4 * places)))

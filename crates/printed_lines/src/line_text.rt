@@ -323,6 +323,7 @@ fn decimal_digit(digit: u64) -> u8
 #[inline(always)]
 fn hex_places(n: u64) -> usize
     ensures places { result ≡ length (digits 16 false n) }
+    ensures some { 0 < result }
     ensures bound { result ≤ 16 }
 {
     if n == 0 {

@@ -6,4 +6,4 @@ pub glyphs-requires : goal.glyphs-requires
 glyphs-requires c = rw c.halves.ensures (nibbles_below 16 _)
 
 pub returns : goal.returns
-returns c = ?
+returns c = rw (c.glyphs.ensures, c.halves.ensures) (front c.args.n c.args.places _ c.ranges.n.fits c.requires.most c.requires.places refl)
