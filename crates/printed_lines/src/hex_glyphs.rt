@@ -25,10 +25,7 @@ fn halves(n: u64) -> u8x16
     let bytes = u8x8::from_array(n.to_be_bytes());
     let high = bytes / u8x8::splat(16);
     let low = bytes & u8x8::splat(15);
-    high.shuffle(
-        low,
-        [0, 8, 1, 9, 2, 10, 3, 11, 4, 12, 5, 13, 6, 14, 7, 15],
-    )
+    high.shuffle(low, [0, 8, 1, 9, 2, 10, 3, 11, 4, 12, 5, 13, 6, 14, 7, 15])
 }
 
 /// The bytes of hexadecimal digits, in lower case.
