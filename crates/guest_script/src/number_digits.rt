@@ -13,8 +13,8 @@ pub fn plain_hex(bytes: &[u8]) -> Option<(u64, &[u8])>
     ensures small { IfSome result (λ found. found.0 < 2 ^ 64) }
     ensures shorter { IfSome result (λ found. length found.1.now ≤ length bytes.now) }
 {
-    let (one, rest) = plain_digit(0, bytes, 16)?;
-    if begins_gap(rest) {
+    if is_one_digit(bytes) {
+        let (one, rest) = plain_digit(0, bytes, 16)?;
         return Some((one, rest));
     }
     if bytes.len() < 16 {
@@ -24,10 +24,10 @@ pub fn plain_hex(bytes: &[u8]) -> Option<(u64, &[u8])>
     Some((n, &bytes[count..]))
 }
 
-/// Whether a blank or a line feed stands first.
+/// Whether a blank or a line feed stands behind the first byte.
 #[inline(always)]
-fn begins_gap(bytes: &[u8]) -> bool {
-    matches!(bytes, [b' ' | b'\n', ..])
+fn is_one_digit(bytes: &[u8]) -> bool {
+    matches!(bytes, [_, b' ' | b'\n', ..])
 }
 
 /// The number of the digits of `n` and the one that the bytes begin with, and what stands behind it.
