@@ -12,7 +12,7 @@ use Rattle.std.proofs.lemmas.List.{length-append, length-map, length-take-le, ma
 use Rattle.std.proofs.lemmas.Nat.{and_mask, pow-add, shr-shr}
 use Rattle.std.proofs.lemmas.Simd.{put_chunk_is, splat_is_map, tops_compared, zip2_of_maps}
 use lib.Lanes.{pick_l, put_chunk, sel_l, zip2}
-use Rattle.printed_lines.specs.HexLanes.{nibbles}
+use Rattle.printed_lines.specs.Inside.HexLanes.{nibbles}
 use Rattle.printed_lines.proofs.Hex.{hex-step, hex_small, length-hex-one, length-hex-step, pow-four}
 
 -- ---- the sixteen lanes of a number

@@ -1,5 +1,5 @@
 pub mod Columns
-pub mod HexLanes
 pub mod LineText
 pub mod Sinks
 pub mod Words
+pub mod Inside

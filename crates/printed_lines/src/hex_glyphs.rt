@@ -2,7 +2,7 @@
 ghost use Rattle.std.specs.Prelude.{◌≡◌, ◌<◌, ◌≤◌, false, length, map, take};
 ghost use Rattle.std.specs.Fmt.{digit_glyph, digits};
 ghost use Rattle.std.specs.Int.Digits.{AllBelowBase};
-ghost use Rattle.printed_lines.specs.HexLanes.{nibbles};
+ghost use Rattle.printed_lines.specs.Inside.HexLanes.{nibbles};
 
 use std::simd::prelude::*;
 
