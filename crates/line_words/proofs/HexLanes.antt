@@ -64,7 +64,8 @@ sixteen (x0 ∷ x1 ∷ x2 ∷ x3 ∷ x4 ∷ x5 ∷ x6 ∷ x7 ∷ x8 ∷ x9 ∷ x
 sixteen (x0 ∷ x1 ∷ x2 ∷ x3 ∷ x4 ∷ x5 ∷ x6 ∷ x7 ∷ x8 ∷ x9 ∷ x10 ∷ x11 ∷ x12 ∷ x13 ∷ x14 ∷ []) long below = absurd (omega (arith, long))
 sixteen (x0 ∷ x1 ∷ x2 ∷ x3 ∷ x4 ∷ x5 ∷ x6 ∷ x7 ∷ x8 ∷ x9 ∷ x10 ∷ x11 ∷ x12 ∷ x13 ∷ x14 ∷ x15 ∷ y ∷ ys) long below = absurd (omega (arith, long))
 sixteen (x0 ∷ x1 ∷ x2 ∷ x3 ∷ x4 ∷ x5 ∷ x6 ∷ x7 ∷ x8 ∷ x9 ∷ x10 ∷ x11 ∷ x12 ∷ x13 ∷ x14 ∷ x15 ∷ []) long below =
-    let bytes = λ i. pair x0 x1 below.0 below.1.0 i ∷ pair x2 x3 below.1.1.0 below.1.1.1.0 i ∷ pair x4 x5 below.1.1.1.1.0 below.1.1.1.1.1.0 i ∷ pair x6 x7 below.1.1.1.1.1.1.0 below.1.1.1.1.1.1.1.0 i ∷ pair x8 x9 below.1.1.1.1.1.1.1.1.0 below.1.1.1.1.1.1.1.1.1.0 i ∷ pair x10 x11 below.1.1.1.1.1.1.1.1.1.1.0 below.1.1.1.1.1.1.1.1.1.1.1.0 i ∷ pair x12 x13 below.1.1.1.1.1.1.1.1.1.1.1.1.0 below.1.1.1.1.1.1.1.1.1.1.1.1.1.0 i ∷ pair x14 x15 below.1.1.1.1.1.1.1.1.1.1.1.1.1.1.0 below.1.1.1.1.1.1.1.1.1.1.1.1.1.1.1.0 i ∷ [] in
+    let bytes : packed (x0 ∷ x1 ∷ x2 ∷ x3 ∷ x4 ∷ x5 ∷ x6 ∷ x7 ∷ x8 ∷ x9 ∷ x10 ∷ x11 ∷ x12 ∷ x13 ∷ x14 ∷ x15 ∷ []) ≡ (x0 * 16 + x1) ∷ (x2 * 16 + x3) ∷ (x4 * 16 + x5) ∷ (x6 * 16 + x7) ∷ (x8 * 16 + x9) ∷ (x10 * 16 + x11) ∷ (x12 * 16 + x13) ∷ (x14 * 16 + x15) ∷ [] =
+    λ i. pair x0 x1 below.0 below.1.0 i ∷ pair x2 x3 below.1.1.0 below.1.1.1.0 i ∷ pair x4 x5 below.1.1.1.1.0 below.1.1.1.1.1.0 i ∷ pair x6 x7 below.1.1.1.1.1.1.0 below.1.1.1.1.1.1.1.0 i ∷ pair x8 x9 below.1.1.1.1.1.1.1.1.0 below.1.1.1.1.1.1.1.1.1.0 i ∷ pair x10 x11 below.1.1.1.1.1.1.1.1.1.1.0 below.1.1.1.1.1.1.1.1.1.1.1.0 i ∷ pair x12 x13 below.1.1.1.1.1.1.1.1.1.1.1.1.0 below.1.1.1.1.1.1.1.1.1.1.1.1.1.0 i ∷ pair x14 x15 below.1.1.1.1.1.1.1.1.1.1.1.1.1.1.0 below.1.1.1.1.1.1.1.1.1.1.1.1.1.1.1.0 i ∷ [] in
     ap (from_be_bytes w64) bytes ∙ omega arith
 
 halves : (xs : List ℕ) → map (λ x. bit_and x 15) xs ≡ map (λ x. x % 16) xs
