@@ -13,7 +13,7 @@ use Rattle.std.proofs.lemmas.Nat.{and_mask, div-mul-add, pow-add}
 use Rattle.std.proofs.Math.Nat.{pow-suc}
 use Rattle.std.proofs.lemmas.Simd.{zip2_splat}
 use lib.Ieee.Fits.{and_l, and_r}
-use lib.Lanes.{pick_l, sel_l, zip2}
+use lib.Lanes.{Each1, pick_l, sel_l, zip2}
 use Rattle.line_words.specs.Inside.HexLanes.{hex_lane, more}
 
 -- ---- lanes
@@ -149,12 +149,17 @@ front_number ds k long few all =
     ∙ ap (λ n. number_from_digits 16 front * 16 ^ n + number_from_digits 16 back) size in
     rw (shift, pow-four (16 - k), parts) (div-mul-add (number_from_digits 16 front) (16 ^ (16 - k)) (number_from_digits 16 back) low)
 
+-- the bytes of a vector
+pub bytes_of : (xs : List ℕ) → Each1 (λ x. x < 256) xs → AreBytes xs
+bytes_of [] h = tt
+bytes_of (x ∷ xs) h = (h.0, bytes_of xs h.1)
+
 -- What is read of sixteen bytes: k digits, and the number that they spell.
-pub front_read : (bs : List ℕ) (whole k n : ℕ) → length bs ≡ 16 → AreBytes bs → 0 < k → k ≤ 16 → k ≡ prefix_len (λ x. not (eqb x 16)) (map hex_lane bs)
+pub front_read : (bs : List ℕ) (whole k n : ℕ) → length bs ≡ 16 → AreBytes bs → 0 < k → k ≤ 16 → k ≤ prefix_len (λ x. not (eqb x 16)) (map hex_lane bs)
     → whole ≡ number_from_digits 16 (map (λ x. x % 16) (map hex_lane bs)) → n ≡ whole / 2 ^ (64 - 4 * k)
     → IsNumeral 16 (take k bs) × (n ≡ digits_value 16 (take k bs))
 front_read bs whole k n long fit some few run is shifted =
-    let read = digits_front bs k fit (omega (arith, run)) in
+    let read = digits_front bs k fit run in
     let lanes = map hex_lane bs in
     let ds = map (λ x. x % 16) lanes in
     let size : length ds ≡ 16 = length-map lanes (λ x. x % 16) ∙ length-map bs hex_lane ∙ long in (

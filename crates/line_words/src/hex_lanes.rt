@@ -10,8 +10,8 @@ use std::simd::prelude::*;
 /// The lane of a byte that is no lower-case hexadecimal digit.
 const OTHER: u8 = 16;
 
-/// The number that the lower-case hexadecimal digits spell with which the first 16 bytes begin, and how many they are.
-/// None: the first byte is no such digit.
+/// The number that the bytes spell up to their first blank or line feed, by lower-case hexadecimal digits alone, and how many they
+/// are; it takes at most 16. None: one of them is no such digit, or there is none.
 #[inline(always)]
 pub fn hex_of_sixteen(bytes: &[u8]) -> Option<(u64, usize)>
     requires { 16 ≤ length bytes.now }
@@ -20,13 +20,28 @@ pub fn hex_of_sixteen(bytes: &[u8]) -> Option<(u64, usize)>
     ensures spelled { IfSome result
         (λ found. IsNumeral 16 (take found.1 bytes.now) × (found.0 ≡ digits_value 16 (take found.1 bytes.now))) }
 {
-    let lanes = hex_lanes(u8x16::from_slice(bytes));
-    let count = run_of(lanes);
-    if count == 0 {
+    let read = u8x16::from_slice(bytes);
+    let lanes = hex_lanes(read);
+    // (what is read next waits for the count, but not for this test, which the processor foresees)
+    let count = before_gap(read);
+    if count == 0 || run_of(lanes) < count {
         return None;
     }
     let all = number_of(lanes);
     Some((all >> (64 - 4 * count), count))
+}
+
+/// The number of bytes before the first blank, line feed or lower byte.
+#[inline(always)]
+fn before_gap(bytes: u8x16) -> usize
+    ensures { result ≤ 16 }
+{
+    let gaps = bytes.simd_le(u8x16::splat(b' ')).to_bitmask();
+    if gaps == 0 {
+        16
+    } else {
+        gaps.trailing_zeros() as usize
+    }
 }
 
 /// The value of each byte as a lower-case hexadecimal digit, and 16 for any other byte.
