@@ -9,7 +9,7 @@ use Rattle.std.proofs.lemmas.Bool.{cases_lt, le-ltb, lt-ltb}
 use Rattle.std.proofs.lemmas.Fmt.{digits_is_IsNumeral}
 use Rattle.std.proofs.lemmas.Int.Digits.{digits_value-lt}
 use Rattle.std.proofs.lemmas.List.{length-append, length-map, length-take-le, map-append, map-id, take-append-drop, take-append-le, take-map, take_at}
-use Rattle.std.proofs.lemmas.Nat.{and_mask, pow-add, shr-shr}
+use Rattle.std.proofs.lemmas.Nat.{and_mask, mul-add-lt, pow-add, shr-shr}
 use Rattle.std.proofs.lemmas.Simd.{put_chunk_is, splat_is_map, tops_compared, zip2_of_maps}
 use lib.Lanes.{pick_l, put_chunk, sel_l, zip2}
 use Rattle.printed_lines.specs.Inside.HexLanes.{nibbles}
@@ -134,28 +134,26 @@ front n p top fits few size is =
     let shift : 64 - 4 * p ≡ 4 * (16 - p) = omega (arith, few) in
     let up : 2 ^ (64 - 4 * p) ≡ 16 ^ (16 - p) = rw shift (pow-four (16 - p)) in
     let whole : 16 ^ p * 16 ^ (16 - p) ≡ 2 ^ 64 = let all : p + (16 - p) ≡ 16 = omega (arith, few) in sym (pow-add 16 p (16 - p)) ∙ ap (λ k. 16 ^ k) all in
-    let small : n * 16 ^ (16 - p) < 2 ^ 64 = rw (← whole) (times_lt n (16 ^ p) (16 ^ (16 - p)) (below-digits n p fits size) (one-le-pow (16 - p) 16 (omega arith))) in
+    let product = mul-add-lt n (16 ^ (16 - p)) 0 (16 ^ p) (below-digits n p fits size) (one-le-pow (16 - p) 16 (omega arith)) in
+    let small : n * 16 ^ (16 - p) < 2 ^ 64 = omega (arith, product, whole) in
     let same : top ≡ n * 16 ^ (16 - p) = is ∙ ap (λ k. n * k % 2 ^ 64) up ∙ mod-eq_of_lt small in
     let all : 16 ≡ p + (16 - p) = omega (arith, few) in
     ap (λ t. take p (map (digit_glyph false) (nibbles 16 t))) same
     ∙ take-map (digit_glyph false) p (nibbles 16 (n * 16 ^ (16 - p)))
     ∙ ap (map (digit_glyph false)) (scaled p (16 - p) 16 n all)
     ∙ spelled p n fits size
-  where
-    times_lt : (a b c : ℕ) → a < b → 1 ≤ c → a * c < b * c
-    times_lt a b c less some = native.Mathlib.Nat.mul-lt-mul_of_pos_right less some
 
 -- ---- what is written
 
 pub written : (bytes glyphs ds : List ℕ) (start k : ℕ) → length glyphs ≡ 16 → start + 16 ≤ length bytes → k ≤ 16 → take k glyphs ≡ ds
     → take (start + k) (put_chunk start bytes glyphs) ≡ take start bytes ++ ds
 written bytes glyphs ds start k long room few front =
-    let at = take start bytes in
+    let before = take start bytes in
     let rest = drop (length glyphs) (drop start bytes) in
-    let parts : put_chunk start bytes glyphs ≡ (at ++ take k glyphs) ++ (drop k glyphs ++ rest) =
+    let parts : put_chunk start bytes glyphs ≡ (before ++ take k glyphs) ++ (drop k glyphs ++ rest) =
     put_chunk_is start bytes glyphs (omega (arith, long, room))
-    ∙ ap (λ (g : List ℕ). at ++ (g ++ rest)) (sym (take-append-drop k glyphs))
-    ∙ ap (λ (r : List ℕ). at ++ r) (append_assoc (take k glyphs) (drop k glyphs) rest)
-    ∙ sym (append_assoc at (take k glyphs) (drop k glyphs ++ rest)) in
-    let size : length (at ++ take k glyphs) ≡ start + k = omega (arith, length-append at (take k glyphs), length-take-le start bytes (omega (arith, room)), length-take-le k glyphs (omega (arith, long, few))) in
-    ap (take (start + k)) parts ∙ take_at (at ++ take k glyphs) (drop k glyphs ++ rest) (start + k) size ∙ ap (λ (g : List ℕ). at ++ g) front
+    ∙ ap (λ (g : List ℕ). before ++ (g ++ rest)) (sym (take-append-drop k glyphs))
+    ∙ ap (λ (r : List ℕ). before ++ r) (append_assoc (take k glyphs) (drop k glyphs) rest)
+    ∙ sym (append_assoc before (take k glyphs) (drop k glyphs ++ rest)) in
+    let size : length (before ++ take k glyphs) ≡ start + k = omega (arith, length-append before (take k glyphs), length-take-le start bytes (omega (arith, room)), length-take-le k glyphs (omega (arith, long, few))) in
+    ap (take (start + k)) parts ∙ take_at (before ++ take k glyphs) (drop k glyphs ++ rest) (start + k) size ∙ ap (λ (g : List ℕ). before ++ g) front
