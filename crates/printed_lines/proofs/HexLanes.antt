@@ -85,13 +85,16 @@ glyphs_are ds long below =
 
 -- ---- the digits at the front
 
+some_power : (q : ℕ) → 0 < 16 ^ q
+some_power q = omega (arith, one-le-pow q 16 (omega arith))
+
 scaled-at : (n p q : ℕ) → n * 16 ^ q / 16 ^ (p + q) % 16 ≡ n / 16 ^ p % 16
 scaled-at n p q =
     let turned : p + q ≡ q + p = omega arith in
     ap (λ k. n * 16 ^ q / 16 ^ k % 16) turned
     ∙ ap (λ k. n * 16 ^ q / k % 16) (pow-add 16 q p)
     ∙ ap (λ k. k % 16) (sym (div-div-eq-div-mul (n * 16 ^ q) (16 ^ q) (16 ^ p)))
-    ∙ ap (λ k. k / 16 ^ p % 16) (mul-div_cancel n (one-le-pow q 16 (omega arith)))
+    ∙ ap (λ k. k / 16 ^ p % 16) (mul-div_cancel n (some_power q))
 
 scaled : (p q m n : ℕ) → m ≡ p + q → take p (nibbles m (n * 16 ^ q)) ≡ nibbles p n
 scaled zero q m n is = refl
@@ -134,7 +137,7 @@ front n p top fits few size is =
     let shift : 64 - 4 * p ≡ 4 * (16 - p) = omega (arith, few) in
     let up : 2 ^ (64 - 4 * p) ≡ 16 ^ (16 - p) = rw shift (pow-four (16 - p)) in
     let whole : 16 ^ p * 16 ^ (16 - p) ≡ 2 ^ 64 = let all : p + (16 - p) ≡ 16 = omega (arith, few) in sym (pow-add 16 p (16 - p)) ∙ ap (λ k. 16 ^ k) all in
-    let product = mul-add-lt n (16 ^ (16 - p)) 0 (16 ^ p) (below-digits n p fits size) (one-le-pow (16 - p) 16 (omega arith)) in
+    let product = mul-add-lt n (16 ^ (16 - p)) 0 (16 ^ p) (below-digits n p fits size) (some_power (16 - p)) in
     let small : n * 16 ^ (16 - p) < 2 ^ 64 = omega (arith, product, whole) in
     let same : top ≡ n * 16 ^ (16 - p) = is ∙ ap (λ k. n * k % 2 ^ 64) up ∙ mod-eq_of_lt small in
     let all : 16 ≡ p + (16 - p) = omega (arith, few) in
