@@ -61,6 +61,7 @@ impl Ready {
             Op::Load(_)
             | Op::Store(..)
             | Op::Fetch(_)
+            | Op::Amo(..)
             | Op::WriteSatp(_)
             | Op::WriteSie(_)
             | Op::WriteSstatusSie(_)
