@@ -32,8 +32,8 @@ module _ {X : Type 0} where
       let size : length xs - 1 ≡ place + n = omega (arith, inside) in
       let none : drop (place + 1 + n) xs ≡ [] = drop_all (place + 1 + n) xs (omega (arith, inside)) in
       let moved : paste xs (place + 1) (drop place xs) n ≡ front ++ get_or xs place x ∷ behind =
-      ap (λ (ys : List X). take (place + 1) xs ++ (behind ++ ys)) none
-      ∙ ap (λ (ys : List X). take (place + 1) xs ++ ys) (append-nil behind)
+      ap (λ (ys : List X). take (place + 1) xs ++ behind ++ ys) none
+      ∙ append-nil (take (place + 1) xs ++ behind)
       ∙ ap (λ (ys : List X). ys ++ behind) (take_more xs place x inside)
       ∙ append_assoc front (get_or xs place x ∷ []) behind in
       ap (λ (ys : List X). set ys place x) moved

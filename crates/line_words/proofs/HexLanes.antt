@@ -9,6 +9,7 @@ use Rattle.std.specs.Str.Parse.{AllDigits, IsNumeral, digits_value}
 use Rattle.std.proofs.lemmas.Bool.{cases_Bool, eqb-false, ltb-true}
 use Rattle.std.proofs.lemmas.Int.Digits.{digits_value_is, number_after_append, number_lt}
 use Rattle.std.proofs.lemmas.List.{length-append, length-drop, length-map, length-take-le, take-append-drop, take-map}
+use Rattle.std.proofs.lemmas.List.Sums.{prefix_len-le-length}
 use Rattle.std.proofs.lemmas.Nat.{and_mask, div-mul-add, pow-add}
 use Rattle.std.proofs.Math.Nat.{pow-suc}
 use Rattle.std.proofs.lemmas.Simd.{zip2_splat}
@@ -26,6 +27,10 @@ sel-map p f g (x ∷ xs) = ap (λ r. cond (p x) (f x) (g x) ∷ r) (sel-map p f 
 pub chosen : (p : ℕ → Bool) (f g : ℕ → ℕ) (v : List ℕ) {ms : List Bool} {xs ys : List ℕ} → ms ≡ map p v → xs ≡ map f v → ys ≡ map g v
     → sel_l ms xs ys ≡ map (λ x. cond (p x) (f x) (g x)) v
 chosen p f g v a b c = (λ i. sel_l (a i) (b i) (c i)) ∙ sel-map p f g v
+
+-- the number of lanes before the first that passes a test is at most that of all
+pub before_first : (p : ℕ → Bool) (v : List ℕ) (n : ℕ) → length v ≡ 16 → n ≡ prefix_len (λ x. not (p x)) v → n ≤ 16
+before_first p v n long is = omega (arith, is, prefix_len-le-length (λ x. not (p x)) v, long)
 
 -- ---- the number of sixteen digits
 

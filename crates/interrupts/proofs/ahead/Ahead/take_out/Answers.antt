@@ -35,8 +35,7 @@ invariant_of-self c =
     let shorter = length-remove members (from + place) (omega (arith, long, inside)) in
     let index : from + place ≡ start + (from - start + place) = omega (arith, order) in
     let up = IsNonDecreasingBy-remove (λ (m : Member). m.deadline) (drop start members) (from - start + place) (omega (arith, whole, long, inside, order)) c.self.invariant.1 in
-    let same : drop start c.remove_at-self-inside.new.members.items ≡ remove (drop start members) (from - start + place) =
-    ap (drop start) c.remove_at.ensures ∙ ap (λ k. drop start (remove members k)) index ∙ drop-remove members start (from - start + place) c.self.invariant.0 in (
+    let same = ap (drop start) c.remove_at.ensures ∙ ap (λ k. drop start (remove members k)) index ∙ drop-remove members start (from - start + place) c.self.invariant.0 in (
       omega (arith, ap length c.remove_at.ensures, shorter, long, inside, order, c.self.invariant.0),
       rw same up,
     )

@@ -9,7 +9,7 @@ take_out_where-requires c =
     let kept = c.self.invariant in
     let at = c.self.inside in
     let long = ap (λ (t : Timing). length t.deadlines) c.self.view_is in
-    own-deadline at.time at.deadlines.items at.ahead at.due c.args.h (omega (arith, long, c.requires)) kept.1 kept.2
+    rw c.unwrap_or-deadline.ensures (own-deadline at.time at.deadlines.items at.ahead at.due c.args.h (omega (arith, long, c.requires)) kept.1 kept.2)
 
 pub invariant_of-self : goal.invariant_of-self
 invariant_of-self c =
