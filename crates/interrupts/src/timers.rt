@@ -109,7 +109,7 @@ impl Timers {
         ensures { self.new ≡ with_deadline self.old h None }
     {
         let is_ahead = self.is_ahead(h);
-        let deadline = self.deadlines[h as usize].unwrap_or(0);
+        let deadline = self.deadline(h).unwrap_or(0);
         take_out_where(&mut self.ahead, h, deadline, is_ahead);
         self.due.remove(h);
         self.deadlines[h as usize] = None;
