@@ -12,7 +12,8 @@ pub fn hex_glyphs(n: u64, places: usize) -> u8x16
     requires places { length (digits 16 false n) ≡ places }
     requires some { 0 < places }
     requires most { places ≤ 16 }
-    ensures { take places result ≡ digits 16 false n }
+    ensures len { length result ≡ 16 }
+    ensures front { take places result ≡ digits 16 false n }
 {
     glyphs(halves(n << (64 - 4 * places)))
 }
