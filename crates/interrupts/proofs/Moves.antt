@@ -1,5 +1,5 @@
 -- What moves of a list's members leave.
-use Rattle.std.proofs.Common.{◌≡◌, ℕ, suc, ◌+◌, ◌-◌, ◌<◌, ◌≤◌, List, [], ◌∷◌, ◌++◌, length, get_or, set, take, drop, refl, sym, ap, ◌∙◌, arith, append_assoc}
+use Rattle.std.proofs.Common.{◌≡◌, ℕ, suc, ◌+◌, ◌-◌, ◌<◌, ◌≤◌, List, [], ◌∷◌, ◌++◌, length, get_or, set, take, drop, sym, ap, ◌∙◌, arith, append_assoc}
 use Rattle.std.specs.List.{insert, remove}
 use Rattle.std.proofs.lemmas.List.{append-nil, drop-take, drop_all, length-append, length-drop, length-take-le, set_at, take-take, take_at, take_more, take_rest}
 use Rattle.std.proofs.lemmas.List.Edits.{take-paste}

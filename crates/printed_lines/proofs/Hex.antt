@@ -1,9 +1,8 @@
 -- The hexadecimal digits of a number, from the last to the first, and how many there are.
-use Rattle.std.proofs.Common.{◌≡◌, ℕ, zero, suc, ◌+◌, ◌*◌, ◌/◌, ◌%◌, ◌^◌, ◌<◌, ◌≤◌, false, cond, List, [], ◌∷◌, ◌++◌, length, take, drop, set, ◌-◌, refl, sym, ap, ◌∙◌, arith, inl, inr, append_assoc, length-append, length-set}
+use Rattle.std.proofs.Common.{◌≡◌, ℕ, zero, suc, ◌+◌, ◌*◌, ◌/◌, ◌%◌, ◌^◌, ◌<◌, ◌≤◌, false, cond, List, [], ◌∷◌, ◌++◌, length, ◌-◌, refl, sym, ap, ◌∙◌, arith, inl, inr, append_assoc, length-append}
 use Rattle.std.specs.Fmt.{digits, digit_glyph, digits_onto}
 use Rattle.std.proofs.lemmas.Fmt.{hex_one_digit}
 use Rattle.std.proofs.lemmas.Nat.{pow-add}
-use Rattle.std.proofs.lemmas.List.{take-set-le, drop-set, set_split}
 use Rattle.std.proofs.Math.Nat.{one-le-pow}
 use Rattle.std.proofs.lemmas.Bool.{cases_lt}
 use borrow.Author.Tests.{eq-eqb, ne_eqb}

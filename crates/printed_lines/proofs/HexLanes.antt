@@ -1,14 +1,14 @@
 -- The lanes of a number's hexadecimal digits.
-use Rattle.std.proofs.Common.{◌≡◌, ℕ, zero, suc, ◌+◌, ◌-◌, ◌*◌, ◌/◌, ◌%◌, ◌^◌, ◌<◌, ◌≤◌, Bool, true, false, cond, ltb, List, [], ◌∷◌, ◌++◌, length, get_or, map, replicate, take, drop, refl, sym, ap, ◌∙◌, inl, inr, arith, append_assoc, w8, w64}
+use Rattle.std.proofs.Common.{◌≡◌, ℕ, zero, suc, ◌+◌, ◌-◌, ◌*◌, ◌/◌, ◌%◌, ◌^◌, ◌<◌, ◌≤◌, Bool, false, cond, ltb, List, [], ◌∷◌, ◌++◌, length, map, replicate, take, drop, refl, sym, ap, ◌∙◌, inl, inr, arith, append_assoc, w8, w64}
 use Rattle.std.specs.Fmt.{digits, digit_glyph}
 use Rattle.std.specs.Int.{to_be_bytes}
 use Rattle.std.specs.Int.Digits.{AllBelowBase}
 use Rattle.std.specs.Prelude.{bit_and}
-use Rattle.std.proofs.Math.Nat.{div-div-eq-div-mul, mod-eq_of_lt, mul-div_cancel, one-le-pow, pow-suc, pow-succ'}
+use Rattle.std.proofs.Math.Nat.{div-div-eq-div-mul, mod-eq_of_lt, mul-div_cancel, one-le-pow, pow-succ'}
 use Rattle.std.proofs.lemmas.Bool.{cases_lt, le-ltb, lt-ltb}
 use Rattle.std.proofs.lemmas.Fmt.{digits_is_IsNumeral}
 use Rattle.std.proofs.lemmas.Int.Digits.{digits_value-lt}
-use Rattle.std.proofs.lemmas.List.{length-append, length-map, length-take-le, map-append, map-id, take-append-drop, take-append-le, take-map, take_at}
+use Rattle.std.proofs.lemmas.List.{length-append, length-take-le, map-append, map-id, take-append-drop, take-map, take_at}
 use Rattle.std.proofs.lemmas.Nat.{and_mask, mul-add-lt, pow-add, shr-shr}
 use Rattle.std.proofs.lemmas.Simd.{put_chunk_is, splat_is_map, tops_compared, zip2_of_maps}
 use lib.Lanes.{pick_l, put_chunk, sel_l, zip2}

@@ -1,10 +1,9 @@
-use Rattle.std.proofs.Common.{◌≡◌, ◌≤◌, ◌%◌, eqb, not, length, map, take, refl, ap, ◌∙◌, arith, w8}
+use Rattle.std.proofs.Common.{◌≤◌, ◌%◌, eqb, not, map, refl, ap, ◌∙◌, arith, w8}
 use lib.Lanes.{chunk}
 use Rattle.std.specs.Int.Digits.{number_from_digits}
 use Rattle.std.specs.List.{prefix_len}
 use Rattle.std.proofs.lemmas.List.{take-take}
 use Rattle.std.proofs.lemmas.Simd.{below_from_Fits, chunk-fits, length-chunk}
-use Rattle.line_words.specs.Inside.HexLanes.{hex_lane}
 use Rattle.line_words.proofs.HexLanes.{bytes_of, front_read}
 use Rattle.line_words.proofs.hex_lanes.hex_of_sixteen.Goals as goal
 

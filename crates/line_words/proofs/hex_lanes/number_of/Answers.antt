@@ -1,4 +1,4 @@
-use Rattle.std.proofs.Common.{◌%◌, ap, ◌∙◌, length, map, w64}
+use Rattle.std.proofs.Common.{◌%◌, ap, ◌∙◌, map, w64}
 use Rattle.std.specs.Int.{from_be_bytes}
 use Rattle.std.proofs.lemmas.List.{length-map}
 use Rattle.line_words.proofs.HexLanes.{halves_below, masked, packed, sixteen}
