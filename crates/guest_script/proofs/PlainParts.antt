@@ -93,30 +93,25 @@ digit_small radix n b more read = small (is_digit b radix) (ltb (n * radix + dig
   small false fits is read = absurd cc
 
 -- up to three digits, each read on its own
-digits_read : (radix : ℕ) (bytes ds : List ℕ) (d n : ℕ) (others rest : List ℕ) → 1 ≤ radix → bytes ≡ ds ++ rest → ds ≡ d ∷ others → n < 2 ^ 64 → digits_after radix 0 ds ≡ Some n
-    → BeginsDigits radix bytes n rest
-digits_read radix bytes ds d n others rest r parts filled small read =
-    let numeral = numeral_read radix ds d n others r small filled read in
+digits_read : (bytes ds : List ℕ) (d n : ℕ) (others rest : List ℕ) → bytes ≡ ds ++ rest → ds ≡ d ∷ others → n < 2 ^ 64 → digits_after 10 0 ds ≡ Some n → BeginsDigits 10 bytes n rest
+digits_read bytes ds d n others rest parts filled small read =
+    let numeral = numeral_read 10 ds d n others (omega arith) small filled read in
     (ds, parts, numeral.0, numeral.1)
 
-pub one_digit_begins : (radix : ℕ) (bytes rest : List ℕ) (d n : ℕ) → 1 ≤ radix → bytes ≡ d ∷ rest → digit_after radix 0 d ≡ Some n → BeginsDigits radix bytes n rest
-one_digit_begins radix bytes rest d n r at read =
-    digits_read radix bytes (d ∷ []) d n [] rest r at refl (digit_small radix 0 d n read) (ap (and_digits (λ (k : ℕ). Some k)) read)
+pub one_digit_begins : (bytes rest : List ℕ) (d n : ℕ) → bytes ≡ d ∷ rest → digit_after 10 0 d ≡ Some n → BeginsDigits 10 bytes n rest
+one_digit_begins bytes rest d n at read =
+    digits_read bytes (d ∷ []) d n [] rest at refl (digit_small 10 0 d n read) (ap (and_digits (λ (k : ℕ). Some k)) read)
 
 pub two_digits_begin : (bytes middle rest : List ℕ) (c d m n : ℕ) → bytes ≡ c ∷ middle → digit_after 10 0 c ≡ Some m → middle ≡ d ∷ rest → digit_after 10 m d ≡ Some n → BeginsDigits 10 bytes n rest
 two_digits_begin bytes middle rest c d m n at first next second =
-    digits_read 10 bytes (c ∷ d ∷ []) c n (d ∷ []) rest (omega arith) (at ∙ ap (λ (b : List ℕ). c ∷ b) next) refl (digit_small 10 m d n second)
+    digits_read bytes (c ∷ d ∷ []) c n (d ∷ []) rest (at ∙ ap (λ (b : List ℕ). c ∷ b) next) refl (digit_small 10 m d n second)
     (ap (and_digits (λ (k : ℕ). digits_after 10 k (d ∷ []))) first ∙ ap (and_digits (λ (k : ℕ). Some k)) second)
 
 pub three_digits_begin : (bytes middle last rest : List ℕ) (b c d k m n : ℕ) → bytes ≡ b ∷ middle → digit_after 10 0 b ≡ Some k → middle ≡ c ∷ last → digit_after 10 k c ≡ Some m → last ≡ d ∷ rest
     → digit_after 10 m d ≡ Some n → BeginsDigits 10 bytes n rest
 three_digits_begin bytes middle last rest b c d k m n at first next second behind_it third =
-    digits_read 10 bytes (b ∷ c ∷ d ∷ []) b n (c ∷ d ∷ []) rest (omega arith) (at ∙ ap (λ (l : List ℕ). b ∷ l) (next ∙ ap (λ (l : List ℕ). c ∷ l) behind_it)) refl (digit_small 10 m d n third)
+    digits_read bytes (b ∷ c ∷ d ∷ []) b n (c ∷ d ∷ []) rest (at ∙ ap (λ (l : List ℕ). b ∷ l) (next ∙ ap (λ (l : List ℕ). c ∷ l) behind_it)) refl (digit_small 10 m d n third)
     (ap (and_digits (λ (j : ℕ). digits_after 10 j (c ∷ d ∷ []))) first ∙ ap (and_digits (λ (j : ℕ). digits_after 10 j (d ∷ []))) second ∙ ap (and_digits (λ (j : ℕ). Some j)) third)
-
--- k hexadecimal digits, read at once
-pub hex_run_begins : (bytes : List ℕ) (n k : ℕ) (rest : List ℕ) → rest ≡ drop k bytes → IsNumeral 16 (take k bytes) × (n ≡ digits_value 16 (take k bytes)) → BeginsDigits 16 bytes n rest
-hex_run_begins bytes n k rest is read = (take k bytes, rw is (sym (take-append-drop k bytes)), read.0, read.1)
 
 -- ---- numbers
 

@@ -8,7 +8,6 @@ mod fault;
 mod hart_digits;
 mod laws;
 mod line_kind;
-mod number_digits;
 mod numbers;
 mod parsing;
 mod plain;

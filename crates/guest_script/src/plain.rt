@@ -13,11 +13,10 @@ ghost use Rattle.script_lines.specs.Names.{op_word, said_word};
 ghost use Rattle.script_lines.specs.Packing.{FitsKept, op_made};
 
 use crate::hart_digits::plain_hart;
-use crate::number_digits::{plain_digits, plain_hex};
 use crate::numbers::MOST_ARGUMENTS;
 use arrayvec::ArrayVec;
 use board_terms::{Actor, Op};
-use line_words::{LAST_ABOVE, LAST_BELOW, below_zero};
+use line_words::{LAST_ABOVE, LAST_BELOW, below_zero, push_digit};
 use script_lines::{
     LAST_HART, Lines, MOST_LINES, OpName, OpShape, Places, Plain, Said, SaidName, words,
 };
@@ -444,7 +443,7 @@ fn plain_word(bytes: &[u8]) -> Option<(u64, &[u8])>
 {
     match after(bytes, b"0x") {
         Some(digits) => {
-            let (n, rest) = plain_hex(digits)?;
+            let (n, rest) = plain_digits(digits, 16)?;
             Some((n, rest))
         }
         None => {
@@ -452,6 +451,26 @@ fn plain_word(bytes: &[u8]) -> Option<(u64, &[u8])>
             Some((n, rest))
         }
     }
+}
+
+/// The number that the digits spell which the bytes begin with. Bytes that end with a digit have none.
+#[inline(always)]
+fn plain_digits(bytes: &[u8], radix: u32) -> Option<(u64, &[u8])>
+    requires low { 2 ≤ radix }
+    requires high { radix ≤ 36 }
+    ensures number { IfSome result (λ found. BeginsDigits radix bytes.now found.0 found.1.now) }
+    ensures small { IfSome result (λ found. found.0 < 2 ^ 64) }
+    ensures shorter { IfSome result (λ found. length found.1.now ≤ length bytes.now) }
+{
+    let mut n = 0;
+    for (i, byte) in bytes.iter().enumerate() {
+        match push_digit(n, *byte, radix) {
+            Some(more) => n = more,
+            None if i == 0 => return None,
+            None => return Some((n, &bytes[i..])),
+        }
+    }
+    None
 }
 
 /// A reply or a refusal, a blank before each of its words.

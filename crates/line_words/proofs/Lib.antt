@@ -1,5 +1,4 @@
 pub mod DigitValues
-pub mod HexLanes
 pub mod LinesOf
 pub mod Numerals
 pub mod Spacing

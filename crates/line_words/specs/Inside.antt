@@ -1,3 +1,2 @@
 -- Private: what no clause of a public call names.
-pub mod HexLanes
 pub mod Scanning

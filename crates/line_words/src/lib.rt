@@ -3,12 +3,10 @@
 
 mod columns;
 mod digits;
-mod hex_lanes;
 mod text;
 mod words;
 
 pub use columns::{column, from_bad_byte, from_next, from_word};
 pub use digits::{LAST_ABOVE, LAST_BELOW, below_zero, number, push_digit, signed_number};
-pub use hex_lanes::hex_of_sixteen;
 pub use text::{is_clean, next_line, without_return};
 pub use words::{after_arrow, has_arrow, next_word, next_word_until};

@@ -1,10 +1,9 @@
-use Rattle.std.proofs.Common.{arith}
 use Rattle.guest_script.proofs.PlainParts.{one_digit_begins, three_digits_begin, two_digits_begin}
 use Rattle.guest_script.proofs.hart_digits.plain_hart.Goals as goal
 
 pub returns-then-begins_blank-clause-number : goal.returns-then-begins_blank-clause-number
 returns-then-begins_blank-clause-number c =
-    one_digit_begins 10 c.args.bytes.now c.in_ok-one.rest.now _ c.in_ok-one.one (omega arith) c.in_ok-one.ensures.digit c.in_ok-one.ensures.number
+    one_digit_begins c.args.bytes.now c.in_ok-one.rest.now _ c.in_ok-one.one c.in_ok-one.ensures.digit c.in_ok-one.ensures.number
 
 pub returns-then-begins_blank-2-clause-number : goal.returns-then-begins_blank-2-clause-number
 returns-then-begins_blank-2-clause-number c =
