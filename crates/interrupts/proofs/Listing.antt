@@ -2,7 +2,7 @@
 use Rattle.std.proofs.Common.{◌≡◌, ◌≢◌, ℕ, suc, zero, ◌+◌, ◌<◌, ◌≤◌, Bool, true, false, List, [], ◌∷◌, ◌++◌, length, get_or, set, take, drop, Option, Some, None, refl, sym, ap, ◌∙◌, arith, inl, inr, eq-eqb}
 use Rattle.std.specs.Prelude.{◌==◌, ◌||◌, ◌&&◌, not, if◌then◌else◌, nat_le}
 use Rattle.std.specs.List.{All, insert}
-use Rattle.std.specs.Option.{option_to_list, unwrap_or}
+use Rattle.std.specs.Option.{option_to_list}
 use Rattle.std.proofs.lemmas.Bool.{cases_lt, lt-ltb, le-leb, le-ltb, leb-true, lt-leb}
 use Rattle.std.proofs.lemmas.Bool.Decides.{eqb_tells}
 use Rattle.std.proofs.lemmas.List.{get_or-set_other, get_or-set_same, length-set, take-append-drop}
@@ -89,31 +89,6 @@ ahead-listed time deadlines ahead due h inside kept later =
     by_deadline (Some d) = elim (cases_lt time d) [
       | inl low ↦ rw (lt-leb d time low, lt-ltb time d low) refl
       | inr high ↦ rw (le-leb d time high, le-ltb time d high) refl
-    ]
-
--- each member of a hart has the hart's deadline
-pub own-deadline : (time : ℕ) (deadlines : List (Option ℕ)) (ahead : List Member) (due : List ℕ) (h : ℕ) → h < length deadlines
-    → IsListed time deadlines ahead due → IsLater time ahead
-    → All (λ (m : Member). m.hart ≡ h → m.deadline ≡ unwrap_or (get_or deadlines h None) 0) ahead
-own-deadline time deadlines ahead due h inside kept later =
-    own (unwrap_or (get_or deadlines h None) 0) ahead
-    (alone (is_ahead time (get_or deadlines h None)) (get_or deadlines h None) (ahead-listed time deadlines ahead due h inside kept later))
-  where
-    alone : (so : Bool) (d : Option ℕ) → deadlines_in h ahead ≡ (if so then option_to_list d else []) → All (λ e. e ≡ unwrap_or d 0) (deadlines_in h ahead)
-    alone true None is = rw is (All-nil (λ (e : ℕ). e ≡ 0))
-    alone true (Some d) is = rw is (All-cons (λ (e : ℕ). e ≡ d) d [] refl (All-nil (λ (e : ℕ). e ≡ d)))
-    alone false d is = rw is (All-nil (λ (e : ℕ). e ≡ unwrap_or d 0))
-
-    own : (d : ℕ) (members : List Member) → All (λ e. e ≡ d) (deadlines_in h members) → All (λ (m : Member). m.hart ≡ h → m.deadline ≡ d) members
-    own d [] all = All-nil (λ (m : Member). m.hart ≡ h → m.deadline ≡ d)
-    own d (m ∷ ms) all = elim (eqb_tells m.hart h) [
-      | inl same ↦
-          let here : All (λ e. e ≡ d) (m.deadline ∷ deadlines_in h ms) = rw same.0 at all in
-          All-cons (λ (x : Member). x.hart ≡ h → x.deadline ≡ d) m ms (λ _. All-head (λ e. e ≡ d) m.deadline (deadlines_in h ms) here)
-          (own d ms (All-tail (λ e. e ≡ d) m.deadline (deadlines_in h ms) here))
-      | inr other ↦
-          let rest : All (λ e. e ≡ d) (deadlines_in h ms) = rw other.0 at all in
-          All-cons (λ (x : Member). x.hart ≡ h → x.deadline ≡ d) m ms (λ is. absurd (other.1 is)) (own d ms rest)
     ]
 
 has-without : (ids : List ℕ) (h i : ℕ) → i < 128 → has (without_id ids h) i ≡ (not (i == h) && has ids i)

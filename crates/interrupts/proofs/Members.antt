@@ -4,7 +4,6 @@ use Rattle.std.specs.Prelude.{◌==◌}
 use Rattle.std.specs.List.{All, insert, position, position_or_len, remove}
 use Rattle.std.specs.List.Sorted.{IsNonDecreasingBy}
 use Rattle.std.proofs.lemmas.Bool.{cases_lt, lt-ltb}
-use Rattle.std.proofs.lemmas.Bool.Decides.{eqb_tells}
 use Rattle.std.proofs.lemmas.List.Elements.{All-tail}
 use Rattle.std.proofs.lemmas.List.Quantifiers.{position-Some}
 use Rattle.std.proofs.lemmas.List.Sums.{fails_before_first}
@@ -58,63 +57,22 @@ without-at hart (member ∷ members) zero inside is others = rw (is member) refl
 without-at hart (member ∷ members) (suc i) inside is others =
     rw (others 0 member (omega arith)) (ap (λ ms. member ∷ ms) (without-at hart members i (omega (arith, inside)) is (λ k d below. others (suc k) d (omega arith))))
 
+pub without-position : (hart : ℕ) (members : List Member) (i : ℕ) → position (λ (m : Member). m.hart == hart) members ≡ Some i → remove members i ≡ without_hart hart members
+without-position hart members i at =
+    let is = position-Some (λ (m : Member). m.hart == hart) members i in
+    without-at hart members i (is (member_of 0 0) at).0 (λ d. (is d at).1) (λ k d below. (is d at).2 k below)
+
 -- the list itself, where none is of the hart
 without-none : (hart : ℕ) (members : List Member) → All (λ (m : Member). (m.hart == hart) ≡ false) members → without_hart hart members ≡ members
 without-none hart [] none = refl
 without-none hart (member ∷ members) none =
     rw (none 0 member (omega arith)) (ap (λ ms. member ∷ ms) (without-none hart members (All-tail (λ (m : Member). (m.hart == hart) ≡ false) member members none)))
 
-absent : (hart : ℕ) (members : List Member) → position (λ (m : Member). m.hart == hart) members ≡ None → All (λ (m : Member). (m.hart == hart) ≡ false) members
-absent hart members none = elim (cases_lt (position_or_len (λ (m : Member). m.hart == hart) members) (length members)) [
+pub without-absent : (hart : ℕ) (members : List Member) → position (λ (m : Member). m.hart == hart) members ≡ None → members ≡ without_hart hart members
+without-absent hart members none = elim (cases_lt (position_or_len (λ (m : Member). m.hart == hart) members) (length members)) [
   | inl low ↦ let some : Some (position_or_len (λ (m : Member). m.hart == hart) members) ≡ None = rw (lt-ltb _ _ low) at none in cc
-  | inr high ↦ λ k d inside. fails_before_first (λ (m : Member). m.hart == hart) members k d (omega (arith, high, inside))
+  | inr high ↦ sym (without-none hart members (λ k d inside. fails_before_first (λ (m : Member). m.hart == hart) members k d (omega (arith, high, inside))))
 ]
-
--- A list from its start on is searched from a later place on, where no member between is of the hart.
-module _ (hart : ℕ) (members : List Member) (start from : ℕ) (order : start ≤ from) (within : from ≤ length members)
-    (others : (k : ℕ) (d : Member) → start ≤ k → k < from → ((get_or members k d).hart == hart) ≡ false) where
-  at-place : (k : ℕ) (d : Member) → from ≤ start + k → get_or (drop start members) k d ≡ get_or (drop from members) (start + k - from) d
-  at-place k d behind =
-      let index : start + k ≡ from + (start + k - from) = omega (arith, behind) in
-      get_or-drop start members k d ∙ ap (λ n. get_or members n d) index ∙ sym (get_or-drop from members (start + k - from) d)
-
-  pub without-from : (i : ℕ) → position (λ (m : Member). m.hart == hart) (drop from members) ≡ Some i
-      → remove (drop start members) (from - start + i) ≡ without_hart hart (drop start members)
-  without-from i at =
-      let is = position-Some (λ (m : Member). m.hart == hart) (drop from members) i in
-      let inside = (is (member_of 0 0) at).0 in
-      let index : start + (from - start + i) - from ≡ i = omega (arith, order) in
-      without-at hart (drop start members) (from - start + i)
-      (omega (arith, length-drop start members, length-drop from members, inside, order, within))
-      (λ d.
-      let here : get_or (drop start members) (from - start + i) d ≡ get_or (drop from members) i d =
-      at-place (from - start + i) d (omega (arith, order)) ∙ ap (λ n. get_or (drop from members) n d) index in
-      rw here (is d at).1)
-      (λ k d below. elim (cases_lt (start + k) from) [
-        | inl before ↦ rw (get_or-drop start members k d) (others (start + k) d (omega arith) before)
-        | inr behind ↦ rw (at-place k d behind) ((is d at).2 (start + k - from) (omega (arith, below, behind, order)))
-      ])
-
-  pub without-absent : position (λ (m : Member). m.hart == hart) (drop from members) ≡ None → drop start members ≡ without_hart hart (drop start members)
-  without-absent none = sym (without-none hart (drop start members) (λ k d inside. elim (cases_lt (start + k) from) [
-    | inl before ↦ rw (get_or-drop start members k d) (others (start + k) d (omega arith) before)
-    | inr behind ↦ rw (at-place k d behind) (absent hart (drop from members) none (start + k - from) d (omega (arith, length-drop start members, length-drop from members, inside, behind, order, within)))
-  ]))
-
--- members with an earlier deadline are of other harts than the one that has this deadline alone
-pub others-before : (hart deadline start from : ℕ) (members : List Member) → start ≤ from → from ≤ length members
-    → All (λ (m : Member). m.hart ≡ hart → m.deadline ≡ deadline) (drop start members)
-    → ((k : ℕ) (m : Member) → start ≤ k → k < from → (get_or members k m).deadline < deadline)
-    → (k : ℕ) (d : Member) → start ≤ k → k < from → ((get_or members k d).hart == hart) ≡ false
-others-before hart deadline start from members order within own before k d above below =
-    let index : start + (k - start) ≡ k = omega (arith, above) in
-    let here : get_or (drop start members) (k - start) d ≡ get_or members k d = get_or-drop start members (k - start) d ∙ ap (λ n. get_or members n d) index in
-    let tells : (get_or members k d).hart ≡ hart → (get_or members k d).deadline ≡ deadline =
-    rw (← here) (own (k - start) d (omega (arith, length-drop start members, above, below, within))) in
-    elim (eqb_tells (get_or members k d).hart hart) [
-      | inl same ↦ absurd (omega (arith, before k d above below, tells same.1))
-      | inr other ↦ other.0
-    ]
 
 -- where the first of a list in order is later, each is
 pub later-from_first : (time : ℕ) (members : List Member) (start : ℕ) → IsNonDecreasingBy (λ (m : Member). m.deadline) (drop start members)
@@ -162,18 +120,3 @@ later-from members deadline start middle e up from later k m above inside =
     get_or-drop start members (k - start) m ∙ ap (λ n. get_or members n m) back_too in
     let order : (get_or members middle e).deadline ≤ (get_or members k m).deadline = rw (← here, ← there) low in
     omega (arith, later, order)
-
--- where a member of a list in order is before a deadline, each up to it is
-pub earlier-upto : (members : List Member) (deadline start middle : ℕ) (e : Member) → IsNonDecreasingBy (λ (m : Member). m.deadline) (drop start members)
-    → start ≤ middle → middle < length members → (get_or members middle e).deadline < deadline
-    → (k : ℕ) (m : Member) → start ≤ k → k ≤ middle → (get_or members k m).deadline < deadline
-earlier-upto members deadline start middle e up from within earlier k m above below =
-    let low = up (k - start) (middle - start) m (omega (arith, below)) (omega (arith, length-drop start members, from, within)) in
-    let back : start + (middle - start) ≡ middle = omega (arith, from) in
-    let back_too : start + (k - start) ≡ k = omega (arith, above) in
-    let here : get_or (drop start members) (middle - start) m ≡ get_or members middle e =
-    get_or-drop start members (middle - start) m ∙ ap (λ n. get_or members n m) back ∙ get_or_default members middle m e within in
-    let there : get_or (drop start members) (k - start) m ≡ get_or members k m =
-    get_or-drop start members (k - start) m ∙ ap (λ n. get_or members n m) back_too in
-    let order : (get_or members k m).deadline ≤ (get_or members middle e).deadline = rw (← there, ← here) low in
-    omega (arith, order, earlier)

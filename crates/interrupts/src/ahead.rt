@@ -1,10 +1,10 @@
 //! Deadlines that aren't due yet, in order.
 
-ghost use Rattle.std.specs.Prelude.{◌≡◌, ◌+◌, ◌-◌, ◌<◌, ◌≤◌, drop, take, length, [], ◌==◌, MatchOption};
-ghost use Rattle.std.specs.List.{All, insert, position, remove};
+ghost use Rattle.std.specs.Prelude.{◌≡◌, ◌+◌, ◌<◌, ◌≤◌, drop, length, [], ◌==◌, MatchOption};
+ghost use Rattle.std.specs.List.{insert, position};
 ghost use Rattle.std.specs.List.Sorted.{IsNonDecreasingBy};
 ghost use Rattle.interrupts.specs.declared.ahead.Member.{Member};
-ghost use Rattle.interrupts.specs.Inside.Ahead.{AreLater, IsFirst, IsFirstOf, IsInserted, IsPlaceOf, member_of, without_hart};
+ghost use Rattle.interrupts.specs.Inside.Ahead.{AreLater, IsFirst, IsInserted, IsPlaceOf, member_of, without_hart};
 
 use arrayvec::ArrayVec;
 use std::marker::Model;
@@ -75,14 +75,12 @@ impl Ahead {
         put(&mut self.members, place, Member { deadline, hart });
     }
 
-    /// Removes this hart's first deadline, if it has one. Each that it has is this one, so its place is found by halving.
-    pub fn take_out(&mut self, hart: u64, deadline: u64)
-        requires { All (λ (member : Member). member.hart ≡ hart → member.deadline ≡ deadline) self.old }
+    /// Removes this hart's first deadline, if it has one.
+    pub fn take_out(&mut self, hart: u64)
         ensures { self.new ≡ without_hart hart self.old }
     {
-        let from = first_of(self.members.as_slice(), self.start, deadline);
-        if let Some(place) = place_of_hart(&self.members.as_slice()[from..], hart) {
-            remove_at(&mut self.members, from + place);
+        if let Some(place) = place_of_hart(&self.members.as_slice()[self.start..], hart) {
+            self.members.remove(self.start + place);
         }
     }
 
@@ -120,18 +118,9 @@ fn with_room(members: &mut ArrayVec<Member, ROOM>, start: usize) -> usize
         return start;
     }
     let left = members.len() - start;
-    move_down(members.as_mut_slice(), start);
+    members.rotate_left(start);
     members.truncate(left);
     0
-}
-
-/// Moves the members from `start` on to the front.
-#[tactic(auto, using(crate::proofs::Moves::moved_down))]
-fn move_down(members: &mut [Member], start: usize)
-    requires { start ≤ length members.old }
-    ensures { take (length members.old - start) members.new ≡ drop start members.old }
-{
-    members.copy_within(start.., 0);
 }
 
 /// The place for a deadline: before those that are later, and after the others. Most often that is the end; otherwise the
@@ -157,64 +146,17 @@ fn place_of(members: &[Member], start: usize, deadline: u64) -> usize
     low
 }
 
-/// The first place from `start` on whose deadline isn't before this one, found by halving.
-fn first_of(members: &[Member], start: usize, deadline: u64) -> usize
-    requires within { start ≤ length members.now }
-    requires in_order { IsNonDecreasingBy (λ (m : Member). m.deadline) (drop start members.now) }
-    ensures { IsFirstOf deadline start members.now result }
-{
-    let mut low = start;
-    let mut high = members.len();
-    while low < high {
-        let middle = low + (high - low) / 2;
-        if members[middle].deadline < deadline {
-            low = middle + 1;
-        } else {
-            high = middle;
-        }
-    }
-    low
-}
-
 /// Inserts a member at a place; there is room for it. At the end no member moves.
-#[tactic(auto, using(crate::proofs::Moves::put_in))]
 fn put(members: &mut ArrayVec<Member, ROOM>, place: usize, member: Member)
     requires within { place ≤ length members.old.items }
     requires room { length members.old.items < 128 }
     ensures { members.new.items ≡ insert members.old.items place member }
 {
-    members.push(member);
-    make_way(members.as_mut_slice(), place, member);
-}
-
-/// Moves the members from a place on up by one, over the last, and puts this member at the place.
-#[tactic(auto, using(crate::proofs::Moves::way_made))]
-fn make_way(members: &mut [Member], place: usize, member: Member)
-    requires { place < length members.old }
-    ensures { members.new ≡ insert (take (length members.old - 1) members.old) place member }
-{
-    let last = members.len() - 1;
-    members.copy_within(place..last, place + 1);
-    members[place] = member;
-}
-
-/// Removes the member at a place.
-fn remove_at(members: &mut ArrayVec<Member, ROOM>, place: usize)
-    requires { place < length members.old.items }
-    ensures { members.new.items ≡ remove members.old.items place }
-{
-    let last = members.len() - 1;
-    close_up(members.as_mut_slice(), place);
-    members.truncate(last);
-}
-
-/// Moves the members behind a place down by one.
-#[tactic(auto, using(crate::proofs::Moves::closed_up))]
-fn close_up(members: &mut [Member], place: usize)
-    requires { place < length members.old }
-    ensures { take (length members.old - 1) members.new ≡ remove members.old place }
-{
-    members.copy_within(place + 1.., place);
+    if place == members.len() {
+        members.push(member);
+        return;
+    }
+    members.insert(place, member);
 }
 
 /// The place of this hart's first deadline.

@@ -109,8 +109,7 @@ impl Timers {
         ensures { self.new ≡ with_deadline self.old h None }
     {
         let is_ahead = self.is_ahead(h);
-        let deadline = self.deadline(h).unwrap_or(0);
-        take_out_where(&mut self.ahead, h, deadline, is_ahead);
+        take_out_where(&mut self.ahead, h, is_ahead);
         self.due.remove(h);
         self.deadlines[h as usize] = None;
     }
@@ -199,12 +198,11 @@ fn no_deadlines(alloc: Global, harts: u64) -> Result<Vec<Option<u64>>, AllocErro
 }
 
 /// Removes the deadline of hart `h` if it is in the list, which `is_ahead` says.
-fn take_out_where(ahead: &mut Ahead, h: u64, deadline: u64, is_ahead: bool)
-    requires { All (λ (member : Member). member.hart ≡ h → member.deadline ≡ deadline) ahead.old }
+fn take_out_where(ahead: &mut Ahead, h: u64, is_ahead: bool)
     ensures { ahead.new ≡ (if is_ahead then without_hart h ahead.old else ahead.old) }
 {
     if is_ahead {
-        ahead.take_out(h, deadline);
+        ahead.take_out(h);
     }
 }
 

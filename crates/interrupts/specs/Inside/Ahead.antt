@@ -39,9 +39,3 @@ pub record IsPlaceOf (deadline start : ℕ) (members : List Member) (place : ℕ
   pub within : place ≤ length members
   pub before : (m : Member) → start < place → (slice_index_or members (place - 1) m).deadline ≤ deadline
   pub later : (k : ℕ) (m : Member) → place ≤ k → k < length members → deadline < (slice_index_or members k m).deadline
-
--- the first place whose deadline isn't before this one: each between the start and the place is before it
-pub record IsFirstOf (deadline start : ℕ) (members : List Member) (place : ℕ) : Type 0 where
-  pub from : start ≤ place
-  pub within : place ≤ length members
-  pub before : (k : ℕ) (m : Member) → start ≤ k → k < place → (slice_index_or members k m).deadline < deadline

@@ -1,18 +1,8 @@
-use Rattle.std.proofs.Common.{◌≡◌, ℕ, Option, length, get_or, None, ap, ◌∙◌, sym, arith}
-use Rattle.std.specs.Option.{unwrap_or}
+use Rattle.std.proofs.Common.{◌≡◌, length, get_or, None, ap, ◌∙◌, sym, arith}
 use Rattle.interrupts.specs.Timing.{Timing, deadline_of}
 use Rattle.interrupts.specs.Inside.Listed.{is_ahead}
-use Rattle.interrupts.proofs.Listing.{later-without, listed-forgotten, own-deadline}
+use Rattle.interrupts.proofs.Listing.{later-without, listed-forgotten}
 use Rattle.interrupts.proofs.timers.Timers.forget.Goals as goal
-
-pub take_out_where-requires : goal.take_out_where-requires
-take_out_where-requires c =
-    let kept = c.self.invariant in
-    let at = c.self.inside in
-    let long = ap (λ (t : Timing). length t.deadlines) c.self.view_is in
-    let so : c.unwrap_or-deadline.result ≡ unwrap_or (get_or at.deadlines.items c.args.h None) 0 =
-    c.unwrap_or-deadline.ensures ∙ ap (λ (d : Option ℕ). unwrap_or d 0) (c.deadline.ensures ∙ ap (λ (t : Timing). deadline_of t c.args.h) (sym c.self.view_is)) in
-    rw so (own-deadline at.time at.deadlines.items at.ahead at.due c.args.h (omega (arith, long, c.requires)) kept.1 kept.2)
 
 pub invariant_of-self : goal.invariant_of-self
 invariant_of-self c =
