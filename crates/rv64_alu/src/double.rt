@@ -33,9 +33,8 @@ pub(crate) fn divided_signed(a: u64, b: u64) -> u64
     if b == 0 {
         return u64::MAX;
     }
-    a.cast_signed()
-        .wrapping_div(b.cast_signed())
-        .cast_unsigned()
+    let quotient = a.cast_signed().wrapping_div(b.cast_signed());
+    quotient.cast_unsigned()
 }
 
 /// The remainder of signed numbers; by 0 the first.
@@ -45,7 +44,6 @@ pub(crate) fn left_over_signed(a: u64, b: u64) -> u64
     if b == 0 {
         return a;
     }
-    a.cast_signed()
-        .wrapping_rem(b.cast_signed())
-        .cast_unsigned()
+    let remainder = a.cast_signed().wrapping_rem(b.cast_signed());
+    remainder.cast_unsigned()
 }

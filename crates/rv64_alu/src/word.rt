@@ -92,9 +92,8 @@ fn divided_signed(a: u32, b: u32) -> u32
     if b == 0 {
         return u32::MAX;
     }
-    a.cast_signed()
-        .wrapping_div(b.cast_signed())
-        .cast_unsigned()
+    let quotient = a.cast_signed().wrapping_div(b.cast_signed());
+    quotient.cast_unsigned()
 }
 
 /// The remainder of signed numbers; by 0 the first.
@@ -104,7 +103,6 @@ fn left_over_signed(a: u32, b: u32) -> u32
     if b == 0 {
         return a;
     }
-    a.cast_signed()
-        .wrapping_rem(b.cast_signed())
-        .cast_unsigned()
+    let remainder = a.cast_signed().wrapping_rem(b.cast_signed());
+    remainder.cast_unsigned()
 }
