@@ -3,7 +3,7 @@ use Rattle.std.proofs.Common.{◌≡◌, ◌⊎◌, ℕ, List, [], ◌∷◌, �
 use Rattle.asm_tokens.specs.declared.tokens.Wrong.{Wrong}
 use Rattle.asm_tokens.specs.declared.reader.Fault.{Fault}
 use Rattle.asm_tokens.specs.Tokens.{Lexeme, Reading, first}
-use Rattle.asm_tokens.specs.Tokens.Reading.{Begins, Gap, IsWrong, Over}
+use Rattle.asm_tokens.specs.Tokens.Reading.{Begins, Gap, Faulty, Over}
 use Rattle.asm_tokens.specs.Readings.{AreTokens, HasOneReading, IsFault, Part, ReadsTo, Spot, taken}
 use Rattle.asm_tokens.specs.Readings.Part.{Passed, Took}
 
@@ -37,7 +37,7 @@ taken-took (Took one ∷ parts) spot = ap (λ (spots : List Spot). one ∷ spots
 
 -- a text that begins with no part
 Stops : List ℕ → Type 0
-Stops text = (first text ≡ Over) ⊎ ((wrong : Wrong) × (first text ≡ IsWrong wrong))
+Stops text = (first text ≡ Over) ⊎ ((wrong : Wrong) × (first text ≡ Faulty wrong))
 
 no_gap : (text rest after : List ℕ) → text ≡ rest → Stops rest → first text ≡ Gap after → ⊥
 unfolding Stops
@@ -87,7 +87,7 @@ one_reading_of text = record {
   fault = λ one other f g.
       let same = same_parts text f.0 g.0 f.1 g.1 f.2 g.2 (inr (one.wrong, f.3)) (inr (other.wrong, g.3)) in
       let e : first f.1 ≡ first g.1 = ap first same.1 in
-      let both : IsWrong one.wrong ≡ IsWrong other.wrong = sym f.3 ∙ e ∙ g.3 in
+      let both : Faulty one.wrong ≡ Faulty other.wrong = sym f.3 ∙ e ∙ g.3 in
       let wrong : one.wrong ≡ other.wrong = cc in
       let left : one.left ≡ other.left = f.4 ∙ ap length same.1 ∙ sym g.4 in
       λ i. record { wrong = wrong i; left = left i };

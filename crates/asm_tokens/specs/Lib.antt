@@ -3,6 +3,7 @@ pub mod Marks
 pub mod Runs
 pub mod Tokens
 pub mod Readings
+pub mod Statements
 pub mod Places
 pub mod Registers
 pub mod Numbers

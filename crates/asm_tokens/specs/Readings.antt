@@ -5,7 +5,7 @@ use Rattle.asm_tokens.specs.declared.reader.Placed.{Placed}
 use Rattle.asm_tokens.specs.declared.reader.ReadFault.{ReadFault}
 use Rattle.asm_tokens.specs.declared.reader.ReadFault.TheVariants.{Wrong, NoMemory}
 use Rattle.asm_tokens.specs.Tokens.{Lexeme, Reading, first, lexeme_of}
-use Rattle.asm_tokens.specs.Tokens.Reading.{Begins, Gap, IsWrong}
+use Rattle.asm_tokens.specs.Tokens.Reading.{Begins, Gap, Faulty}
 
 -- a token, and the number of bytes from it to the end of the text
 pub record Spot : Type 0 where
@@ -40,7 +40,7 @@ AreTokens text spots = (parts : List Part) × ReadsTo text parts [] × (taken pa
 -- The first fault of a text: what stands behind its first tokens, blanks and comments begins nothing of these.
 abbrev pub IsFault : (text : List ℕ) → Fault → Type 0
 IsFault text fault = (parts : List Part) × (rest : List ℕ) × ReadsTo text parts rest
-    × (first rest ≡ IsWrong fault.wrong) × (fault.left ≡ length rest)
+    × (first rest ≡ Faulty fault.wrong) × (fault.left ≡ length rest)
 
 -- why a text wasn't read: its first fault, or memory was refused
 abbrev pub IsReadFault : (text : List ℕ) → ReadFault → Type 0

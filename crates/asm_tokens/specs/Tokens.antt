@@ -4,7 +4,7 @@ use Rattle.asm_tokens.specs.declared.bytes.ByteClass.{ByteClass}
 use Rattle.asm_tokens.specs.declared.bytes.ByteClass.TheVariants as classes
 use Rattle.asm_tokens.specs.declared.marks.Mark as marks
 use Rattle.asm_tokens.specs.declared.marks.Mark.TheVariants.{Slash}
-use Rattle.asm_tokens.specs.declared.runs.Run.TheVariants.{Blanks, Word, Line}
+use Rattle.asm_tokens.specs.declared.runs.Run.TheVariants as runs
 use Rattle.asm_tokens.specs.declared.tokens.Token.{Token}
 use Rattle.asm_tokens.specs.declared.tokens.Token.TheVariants as tokens
 use Rattle.asm_tokens.specs.declared.tokens.First.{First}
@@ -18,29 +18,29 @@ use Rattle.asm_tokens.specs.Runs.{behind_comment, closing_quote, drop_run, run_l
 
 -- a token: a word, a string with its escapes, a mark, or the end of a statement
 pub data Lexeme : Type 0 where
-  IsWord : List ℕ → Lexeme
-  IsText : List ℕ → Lexeme
-  IsMark : marks.Mark → Lexeme
-  IsEnd : Lexeme
+  Word : List ℕ → Lexeme
+  Text : List ℕ → Lexeme
+  Mark : marks.Mark → Lexeme
+  End : Lexeme
 
 -- what a text begins with, and the text behind it
 pub data Reading : Type 0 where
   Over : Reading
   Gap : List ℕ → Reading
   Begins : Lexeme → List ℕ → Reading
-  IsWrong : wrongs.Wrong → Reading
+  Faulty : wrongs.Wrong → Reading
 
 abbrev pub lexeme_of : Token → Lexeme
-lexeme_of (tokens.Word word) = IsWord word.now
-lexeme_of (tokens.Text text) = IsText text.now
-lexeme_of (tokens.Mark mark) = IsMark mark
-lexeme_of tokens.End = IsEnd
+lexeme_of (tokens.Word word) = Word word.now
+lexeme_of (tokens.Text text) = Text text.now
+lexeme_of (tokens.Mark mark) = Mark mark
+lexeme_of tokens.End = End
 
 abbrev pub reading_of : First → Reading
 reading_of firsts.Over = Over
 reading_of (firsts.Gap behind) = Gap behind.now
 reading_of (firsts.Begins token behind) = Begins (lexeme_of token) behind.now
-reading_of (firsts.Wrong wrong) = IsWrong wrong
+reading_of (firsts.Wrong wrong) = Faulty wrong
 
 -- the text behind it is shorter than n
 abbrev pub LeavesLess : First → ℕ → Type 0
@@ -53,18 +53,18 @@ LeavesLess (firsts.Wrong wrong) n = Unit {0}
 
 -- the longest word
 abbrev pub word_of : (text after : List ℕ) → Reading
-word_of text after = Begins (IsWord (take (run_length Word after + 1) text)) (drop_run Word after)
+word_of text after = Begins (Word (take (run_length runs.Word after + 1) text)) (drop_run runs.Word after)
 
 abbrev pub string_by : Option ℕ → List ℕ → Reading
-string_by None after = IsWrong OpenString
-string_by (Some n) after = Begins (IsText (take n after)) (drop (n + 1) after)
+string_by None after = Faulty OpenString
+string_by (Some n) after = Begins (Text (take n after)) (drop (n + 1) after)
 
 -- a string up to its closing quote
 abbrev pub string_of : (after : List ℕ) → Reading
 string_of after = string_by (closing_quote 0 false after) after
 
 abbrev pub comment_by : Option (List ℕ) → Reading
-comment_by None = IsWrong OpenComment
+comment_by None = Faulty OpenComment
 comment_by (Some behind) = Gap behind
 
 -- a comment up to its `*/`
@@ -73,18 +73,18 @@ comment_of inside = comment_by (behind_comment false inside)
 
 -- a comment if a `*` follows, else a mark
 abbrev pub slash_of : (after : List ℕ) → Reading
-slash_of [] = Begins (IsMark Slash) []
-slash_of (b ∷ inside) = if b == 42 then comment_of inside else Begins (IsMark Slash) (b ∷ inside)
+slash_of [] = Begins (Mark Slash) []
+slash_of (b ∷ inside) = if b == 42 then comment_of inside else Begins (Mark Slash) (b ∷ inside)
 
 abbrev pub reading_by : ByteClass → (text after : List ℕ) → Reading
-reading_by classes.Blank text after = Gap (drop_run Blanks after)
+reading_by classes.Blank text after = Gap (drop_run runs.Blanks after)
 reading_by classes.Letter text after = word_of text after
-reading_by classes.End text after = Begins IsEnd after
-reading_by classes.Hash text after = Gap (drop_run Line after)
+reading_by classes.End text after = Begins End after
+reading_by classes.Hash text after = Gap (drop_run runs.Line after)
 reading_by classes.Quote text after = string_of after
 reading_by classes.Slash text after = slash_of after
-reading_by (classes.Mark mark) text after = Begins (IsMark mark) after
-reading_by classes.Other text after = IsWrong BadByte
+reading_by (classes.Mark mark) text after = Begins (Mark mark) after
+reading_by classes.Other text after = Faulty BadByte
 
 -- What a text begins with.
 abbrev pub first : List ℕ → Reading

@@ -9,6 +9,7 @@ mod places;
 mod reader;
 mod registers;
 mod runs;
+mod statements;
 mod tokens;
 
 pub use laws::one_reading;
@@ -17,4 +18,5 @@ pub use numbers::number;
 pub use places::{Place, place_at};
 pub use reader::{Fault, Placed, ReadFault, read_tokens};
 pub use registers::register_number;
+pub use statements::{next_label, next_operand, next_statement};
 pub use tokens::{First, Token, Wrong, first_token};

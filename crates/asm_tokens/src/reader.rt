@@ -7,7 +7,7 @@ use crate::tokens::{First, Token, Wrong, first_token};
 use std::alloc::{AllocFailed, Global};
 
 /// A token, and its place.
-#[derive(Clone, Copy, Debug, PartialEq, Eq)]
+#[derive(Clone, Copy, Debug)]
 pub struct Placed<'a> {
     /// The token.
     pub token: Token<'a>,
@@ -25,7 +25,7 @@ pub struct Fault {
 }
 
 /// Why a text wasn't read.
-#[derive(Clone, Copy, Debug, PartialEq, Eq, Drop)]
+#[derive(Clone, Copy, Debug, PartialEq, Eq)]
 pub enum ReadFault {
     /// Its first fault.
     Wrong(Fault),

@@ -8,7 +8,7 @@ use crate::marks::Mark;
 use crate::runs::{Run, behind_comment, closing_quote, run_len};
 
 /// A token of a text.
-#[derive(Clone, Copy, Debug, PartialEq, Eq)]
+#[derive(Clone, Copy, Debug)]
 pub enum Token<'a> {
     /// A name, a mnemonic, a directive or a number.
     Word(&'a [u8]),
@@ -32,7 +32,7 @@ pub enum Wrong {
 }
 
 /// What a text begins with, and the text behind it.
-#[derive(Clone, Copy, Debug, PartialEq, Eq)]
+#[derive(Clone, Copy, Debug)]
 pub enum First<'a> {
     /// Nothing: the text is empty.
     Over,
