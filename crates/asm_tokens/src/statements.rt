@@ -1,7 +1,7 @@
 //! Statements: their labels, their words, and their operands.
-ghost use Rattle.std.specs.Prelude.{◌≡◌, ◌<◌, IfSome, length};
+ghost use Rattle.std.specs.Prelude.{◌≡◌, ◌<◌, IfSome, length, option_map};
 ghost use Rattle.std.specs.List.{position};
-ghost use Rattle.asm_tokens.specs.Statements.{back_by, ends, front_by, is_comma, label_found, label_of};
+ghost use Rattle.asm_tokens.specs.Statements.{back_by, ends, front_by, is_comma, label_of};
 
 use crate::marks::Mark;
 use crate::reader::Placed;
@@ -25,7 +25,7 @@ pub fn next_operand<'t, 'a>(tokens: &'t [Placed<'a>]) -> (&'t [Placed<'a>], &'t 
 
 /// The first label of a statement, a word before a `:`, and the tokens behind it.
 pub fn next_label<'t, 'a>(tokens: &'t [Placed<'a>]) -> Option<(&'a [u8], &'t [Placed<'a>])>
-    ensures { label_found result ≡ label_of tokens.now }
+    ensures { option_map (λ found. (found.0.now, found.1.now)) result ≡ label_of tokens.now }
 {
     let (first, behind) = tokens.split_first()?;
     let (second, rest) = behind.split_first()?;
