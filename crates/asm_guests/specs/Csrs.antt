@@ -9,7 +9,9 @@ use Rattle.rv64_instructions.specs.declared.csr.CsrHow.{CsrHow}
 use Rattle.rv64_instructions.specs.declared.csr.CsrHow.TheVariants.{Write, Set, Clear}
 use Rattle.rv64_instructions.specs.declared.csr.CsrSource.{CsrSource}
 use Rattle.rv64_instructions.specs.declared.csr.CsrSource.TheVariants.{Register, Immediate}
-use Rattle.asm_guests.specs.States.{Csrs, State, value_in}
+use Rattle.asm_guests.specs.declared.csrs.Csrs.{Csrs}
+use Rattle.asm_guests.specs.declared.state.State.{State}
+use Rattle.asm_guests.specs.States.{behind, known, put, value_in}
 
 -- ---- the bits of sstatus: SIE is bit 1, SPIE bit 5, SPP bit 8 (Privileged 4.1.1)
 
@@ -84,3 +86,9 @@ is_board_csr Sstatus = true
 is_board_csr Sie = true
 is_board_csr Satp = true
 is_board_csr csr = false
+
+-- The state behind a CSR instruction that writes: the CSR is written, and the register gets its old value.
+abbrev pub csr_done : Spaces → CsrHow → Csr → (register : ℕ) → CsrSource → State → State
+csr_done spaces how csr rd from s = behind (put
+    (record s { csrs = csr_written spaces csr (written_value how (csr_value csr s.csrs) (operand from s)) s.csrs }) rd
+    (known (csr_value csr s.csrs)))

@@ -5,29 +5,23 @@ use Rattle.board_terms.specs.declared.op.Op.{Op}
 use Rattle.board_terms.specs.declared.op.Op.TheVariants.{WriteSstatusSie}
 use Rattle.board_terms.specs.declared.reply.Reply.{Reply}
 use Rattle.rv64_instructions.specs.declared.instruction.Instruction.{Instruction}
-use Rattle.asm_guests.specs.declared.lost.Lost.{Lost}
-use Rattle.asm_guests.specs.declared.lost.Lost.TheVariants.{NoInstruction, Endless}
+use Rattle.asm_guests.specs.declared.guest.Lost.{Lost}
+use Rattle.asm_guests.specs.declared.guest.Lost.TheVariants.{NoInstruction, Endless}
 use Rattle.asm_guests.specs.Local.{Turn, turn_by}
 use Rattle.asm_guests.specs.Local.Turn.{Ends, Steps, Waits}
 use Rattle.asm_guests.specs.Operations.{op_by}
 use Rattle.asm_guests.specs.Replies.{Behind, behind_by, trap_taken}
 use Rattle.asm_guests.specs.Replies.Behind.{GoesOn, Leaves, Strays, Traps}
-use Rattle.asm_guests.specs.States.{State, entered}
+use Rattle.asm_guests.specs.declared.guest.Guest.{Guest}
+use Rattle.asm_guests.specs.declared.guest.Guest.TheVariants.{Nowhere, Before, Trapping, Through, Astray}
+use Rattle.asm_guests.specs.declared.state.State.{State}
+use Rattle.asm_guests.specs.States.{entered}
 
 -- a program's instructions: the one at each address, and whether an address is the end of a section
 pub record Code : Type 0 where
   pub instruction : ℕ → Option Instruction
   pub is_end : ℕ → Bool
   pub spaces : Spaces
-
--- a guest between two operations: not entered; before the operation of its instruction; before the one that clears SIE for a trap;
--- through; or lost
-pub data Guest : Type 0 where
-  Nowhere : Guest
-  Before : Instruction → State → Guest
-  Trapping : State → Guest
-  Through : Guest
-  Astray : Lost → Guest
 
 -- The most local steps without an operation.
 unfoldable pub most_steps : ℕ
@@ -40,8 +34,12 @@ turned (Steps next) instruction s later = later next
 turned Waits instruction s later = Before instruction s
 turned Ends instruction s later = Through
 
+-- without an instruction a guest is through at the end of a section, and lost anywhere else
+abbrev pub stopped : (is_end : Bool) → Guest
+stopped is_end = if is_end then Through else Astray NoInstruction
+
 abbrev pub fetched : Code → Option Instruction → State → (later : State → Guest) → Guest
-fetched code None s later = if code.is_end s.pc then Through else Astray NoInstruction
+fetched code None s later = stopped (code.is_end s.pc)
 fetched code (Some instruction) s later = turned (turn_by code.spaces instruction s) instruction s later
 
 -- The guest from a state on, if it does at most n local steps before an operation or its end.

@@ -1,18 +1,18 @@
 -- The operation of the board that an instruction is (SBI 3; unprivileged ISA 20191213, 2.6; Privileged 3.3, 4.1, 4.2).
-use Rattle.std.specs.Prelude.{ℕ, ◌-◌, ◌%◌, Bool, ◌==◌, if◌then◌else◌, List, [], ◌∷◌, Option, Some, None}
+use Rattle.std.specs.Prelude.{ℕ, ◌-◌, ◌%◌, ◌==◌, if◌then◌else◌, [], ◌∷◌, Option, Some, None}
 use Rattle.sbi_abi.specs.declared.call.Regs.{Regs}
 use Rattle.board_terms.specs.declared.op.Op.{Op}
 use Rattle.board_terms.specs.declared.op.Op.TheVariants as ops
 use Rattle.rv64_alu.specs.Immediates.{immediate}
 use Rattle.rv64_alu.specs.Loads.{load_size}
-use Rattle.rv64_alu.specs.declared.load.LoadKind.{LoadKind}
 use Rattle.rv64_instructions.specs.declared.csr.Csr.{Csr}
 use Rattle.rv64_instructions.specs.declared.csr.Csr.TheVariants.{Sstatus, Sie, Satp}
 use Rattle.rv64_instructions.specs.declared.instruction.Instruction.{Instruction}
 use Rattle.rv64_instructions.specs.declared.instruction.Instruction.TheVariants as does
 use Rattle.asm_guests.specs.Csrs.{csr_value, has_bit, operand, written_value}
 use Rattle.asm_guests.specs.Local.{address}
-use Rattle.asm_guests.specs.States.{State, value_in}
+use Rattle.asm_guests.specs.declared.state.State.{State}
+use Rattle.asm_guests.specs.States.{value_in}
 
 -- The address of the word of 8 bytes around an address that is naturally aligned. Any other address is loaded as it is, and so
 -- the board answers a fault.

@@ -11,11 +11,15 @@ use Rattle.rv64_alu.specs.Immediates.{immediate}
 use Rattle.rv64_alu.specs.Loads.{loaded}
 use Rattle.rv64_instructions.specs.declared.instruction.Instruction.{Instruction}
 use Rattle.rv64_instructions.specs.declared.instruction.Instruction.TheVariants as does
-use Rattle.asm_guests.specs.declared.lost.Lost.{Lost}
-use Rattle.asm_guests.specs.declared.lost.Lost.TheVariants.{NoHandler, UserMode}
-use Rattle.asm_guests.specs.Csrs.{csr_value, csr_written, operand, written_value}
-use Rattle.asm_guests.specs.Local.{address}
-use Rattle.asm_guests.specs.States.{Csrs, State, behind, goes_to, known, put}
+use Rattle.asm_guests.specs.declared.guest.Lost.{Lost}
+use Rattle.asm_guests.specs.declared.guest.Lost.TheVariants.{NoHandler, UserMode}
+use Rattle.asm_guests.specs.declared.csrs.Csrs.{Csrs}
+use Rattle.asm_guests.specs.declared.replies.Came.{Came}
+use Rattle.asm_guests.specs.declared.replies.Came.TheVariants as came_as
+use Rattle.asm_guests.specs.declared.state.State.{State}
+use Rattle.asm_guests.specs.Csrs.{csr_done}
+use Rattle.asm_guests.specs.Local.{address, puts}
+use Rattle.asm_guests.specs.States.{behind, goes_to, known, put}
 
 -- a guest behind an operation: it goes on; its trap is taken once sstatus.SIE is 0; it is through; or it is lost
 pub data Behind : Type 0 where
@@ -23,6 +27,13 @@ pub data Behind : Type 0 where
   Traps : State → Behind
   Leaves : Behind
   Strays : Lost → Behind
+
+-- how a guest came on, with the state behind it
+abbrev pub came : Came → State → Behind
+came came_as.GoesOn s = GoesOn s
+came came_as.Traps s = Traps s
+came came_as.Leaves s = Leaves
+came (came_as.Strays lost) s = Strays lost
 
 -- the state with what a call returns, in a0 and a1 (SBI 3, Binary Encoding)
 abbrev pub returned : (error value : ℕ) → State → State
@@ -68,28 +79,26 @@ sret s =
 
 -- ---- replies
 
--- A load, with the reply to the load of its word.
-abbrev pub behind_load : Instruction → State → Reply → Behind
-behind_load (does.Load kind rd rs1 offset) s (replies.Value word) =
-    GoesOn (behind (put s rd (known (loaded kind (address s rs1 (immediate offset)) word))))
-behind_load (does.Load kind rd rs1 offset) s (replies.Fault cause) = traps cause (address s rs1 (immediate offset)) s
-behind_load (does.StoreDouble rs2 rs1 offset) s (replies.Fault cause) = traps cause (address s rs1 (immediate offset)) s
-behind_load (does.Fetch rd rs1 offset) s (replies.Value word) = GoesOn (behind (put s rd (known word)))
-behind_load (does.Fetch rd rs1 offset) s (replies.Fault cause) = traps cause (address s rs1 (immediate offset)) s
-behind_load instruction s reply = GoesOn (behind s)
-
 -- A call: it returns; it waits, and then returns 0 and 0; or it doesn't return.
-abbrev pub behind_call : State → Reply → Behind
-behind_call s (replies.Ret ret) = GoesOn (returned (cast_unsigned w64 ret.error) ret.value s)
-behind_call s replies.Waiting = GoesOn (returned 0 0 s)
-behind_call s reply = Leaves
+abbrev pub call_by : State → Reply → Behind
+call_by s (replies.Ret ret) = GoesOn (returned (cast_unsigned w64 ret.error) ret.value s)
+call_by s replies.Waiting = GoesOn (returned 0 0 s)
+call_by s reply = Leaves
+
+-- A load takes its part of the word; a fault of an access goes to the handler; any other reply changes nothing.
+abbrev pub access_by : Instruction → State → Reply → Behind
+access_by (does.Load kind rd rs1 offset) s (replies.Value word) =
+    GoesOn (puts rd (loaded kind (address s rs1 (immediate offset)) word) true s)
+access_by (does.Fetch rd rs1 offset) s (replies.Value word) = GoesOn (puts rd word true s)
+access_by (does.ReadSip rd) s (replies.Value word) = GoesOn (puts rd word true s)
+access_by (does.Load kind rd rs1 offset) s (replies.Fault cause) = traps cause (address s rs1 (immediate offset)) s
+access_by (does.StoreDouble rs2 rs1 offset) s (replies.Fault cause) = traps cause (address s rs1 (immediate offset)) s
+access_by (does.Fetch rd rs1 offset) s (replies.Fault cause) = traps cause (address s rs1 (immediate offset)) s
+access_by instruction s reply = GoesOn (behind s)
 
 -- What a reply makes of a guest that did the operation of its instruction.
 abbrev pub behind_by : Spaces → Instruction → State → Reply → Behind
-behind_by spaces does.Ecall s reply = behind_call s reply
-behind_by spaces (does.Csr how csr rd from) s reply = GoesOn (behind (put
-    (record s { csrs = csr_written spaces csr (written_value how (csr_value csr s.csrs) (operand from s)) s.csrs }) rd
-    (known (csr_value csr s.csrs))))
-behind_by spaces (does.ReadSip rd) s (replies.Value bits) = GoesOn (behind (put s rd (known bits)))
+behind_by spaces does.Ecall s reply = call_by s reply
+behind_by spaces (does.Csr how csr rd from) s reply = GoesOn (csr_done spaces how csr rd from s)
 behind_by spaces does.Sret s reply = sret s
-behind_by spaces instruction s reply = behind_load instruction s reply
+behind_by spaces instruction s reply = access_by instruction s reply

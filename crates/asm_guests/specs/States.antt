@@ -1,38 +1,18 @@
 -- The state of a guest of instructions (unprivileged ISA 20191213, 2.1; Privileged 4.1; that a register can be unknown: profile).
-use Rattle.std.specs.Prelude.{ℕ, Bool, true, false, ◌==◌, if◌then◌else◌, List, Option, None, get_or, replicate, slice_set}
+use Rattle.std.specs.Prelude.{ℕ, Bool, true, false, ◌==◌, if◌then◌else◌, None, get_or, replicate, slice_set}
 use Rattle.std.specs.Int.{w64}
 use Rattle.rv64_alu.specs.Functions.{added}
+use Rattle.asm_guests.specs.declared.csrs.Csrs.{Csrs}
+use Rattle.asm_guests.specs.declared.state.Content.{Content}
+use Rattle.asm_guests.specs.declared.state.State.{State}
 
--- What a register holds. An unknown value counts as 0.
-pub record Content : Type 0 where
-  pub value : ℕ
-  pub is_known : Bool
+-- ---- what a register holds; an unknown value counts as 0
 
 abbrev pub known : ℕ → Content
 known n = record { value = n; is_known = true }
 
 abbrev pub unknown : Content
 unknown = record { value = 0; is_known = false }
-
--- CSRs. satp, sie and sstatus.SIE are copies of the board's; the board doesn't have the others. stvec has no value before it is
--- written.
-pub record Csrs : Type 0 where
-  pub satp : ℕ
-  pub sie : ℕ
-  pub interrupts : Bool  -- sstatus.SIE
-  pub interrupts_before : Bool  -- sstatus.SPIE
-  pub from_supervisor : Bool  -- sstatus.SPP
-  pub stvec : Option ℕ
-  pub sepc : ℕ
-  pub scause : ℕ
-  pub stval : ℕ
-  pub sscratch : ℕ
-
--- the address of the next instruction, the registers by their numbers, and the CSRs
-pub record State : Type 0 where
-  pub pc : ℕ
-  pub registers : List Content
-  pub csrs : Csrs
 
 -- ---- registers; x0 is 0 (unprivileged ISA 2.1)
 
