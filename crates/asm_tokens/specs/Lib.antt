@@ -7,3 +7,4 @@ pub mod Statements
 pub mod Places
 pub mod Registers
 pub mod Numbers
+pub mod Terms

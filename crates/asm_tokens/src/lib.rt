@@ -10,6 +10,7 @@ mod reader;
 mod registers;
 mod runs;
 mod statements;
+mod terms;
 mod tokens;
 
 pub use laws::one_reading;
@@ -19,4 +20,5 @@ pub use places::{Place, place_at};
 pub use reader::{Fault, Placed, ReadFault, read_tokens};
 pub use registers::register_number;
 pub use statements::{next_label, next_operand, next_statement};
+pub use terms::{Found, Term, next_term};
 pub use tokens::{First, Token, Wrong, first_token};
