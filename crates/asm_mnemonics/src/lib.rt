@@ -6,4 +6,4 @@ mod forms;
 mod mnemonics;
 
 pub use forms::{Copied, Form};
-pub use mnemonics::{MNEMONICS, Mnemonic, form_of};
+pub use mnemonics::{MNEMONICS, form_of};
