@@ -120,7 +120,8 @@ fn settle<C: Code>(code: &C, from: State, most: u32) -> Guest
         (record { instruction = C.at code.now; is_end = C.ends code.now; spaces = C.widths code.now }) most from }
 {
     let mut state = from;
-    for _ in 0..most {
+    let mut left = most;
+    while left > 0 {
         let Some(instruction) = code.instruction_at(state.pc) else {
             return stopped(code, state.pc);
         };
@@ -129,6 +130,7 @@ fn settle<C: Code>(code: &C, from: State, most: u32) -> Guest
             Did::Waits => return Guest::Before(instruction, state),
             Did::Ended => return Guest::Through,
         }
+        left -= 1;
     }
     Guest::Astray(Lost::Endless)
 }
