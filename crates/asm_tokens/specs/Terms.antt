@@ -8,7 +8,7 @@ use Rattle.asm_tokens.specs.declared.terms.Term.{Term}
 use Rattle.asm_tokens.specs.declared.terms.Term.TheVariants as terms
 use Rattle.asm_tokens.specs.Numbers.{number_in}
 use Rattle.asm_tokens.specs.Tokens.{Lexeme, lexeme_of}
-use Rattle.asm_tokens.specs.Tokens.Lexeme as lexemes
+use Rattle.asm_tokens.specs.Tokens.Lexeme.{Word, Mark}
 
 -- a term, without where it lies in memory
 pub data Meaning : Type 0 where
@@ -63,15 +63,15 @@ abbrev pub word_term : List ℕ → Option Meaning
 word_term word = number_or (number_in word) (named word)
 
 abbrev pub term_of : Lexeme → Option Meaning
-term_of (lexemes.Word word) = word_term word
+term_of (Word word) = word_term word
 term_of lexeme = None
 
 -- ---- signs
 
 -- whether a sign is a `-`
 abbrev pub sign_of : Lexeme → Option Bool
-sign_of (lexemes.Mark Plus) = Some false
-sign_of (lexemes.Mark Minus) = Some true
+sign_of (Mark Plus) = Some false
+sign_of (Mark Minus) = Some true
 sign_of lexeme = None
 
 abbrev pub signed : (is_minus : Bool) → List Placed → Option Meaning → Option Signed

@@ -1,26 +1,35 @@
 //! Statements: their labels, their words, and their operands.
-ghost use Rattle.std.specs.Prelude.{◌≡◌, ◌<◌, IfSome, length, option_map};
-ghost use Rattle.std.specs.List.{position};
-ghost use Rattle.asm_tokens.specs.Statements.{back_by, ends, front_by, is_comma, label_of};
+ghost use Rattle.std.specs.Prelude.{◌≡◌, ◌≤◌, ◌+◌, drop, length, option_map, take};
+ghost use Rattle.asm_tokens.specs.declared.statements.Stop.TheVariants.{Comma, End};
+ghost use Rattle.asm_tokens.specs.Statements.{label_of, reach, stops};
 
 use crate::marks::Mark;
 use crate::reader::Placed;
 use crate::tokens::Token;
 
+/// What tokens go up to.
+#[derive(Clone, Copy, Debug, PartialEq, Eq)]
+enum Stop {
+    /// The end of a statement.
+    End,
+    /// A comma: the end of an operand.
+    Comma,
+}
+
 /// The tokens of the first statement, and those behind its end.
 pub fn next_statement<'t, 'a>(tokens: &'t [Placed<'a>]) -> (&'t [Placed<'a>], &'t [Placed<'a>])
-    ensures statement { result.0.now ≡ front_by (position ends tokens.now) tokens.now }
-    ensures rest { result.1.now ≡ back_by (position ends tokens.now) tokens.now }
+    ensures statement { result.0.now ≡ take (reach End tokens.now) tokens.now }
+    ensures rest { result.1.now ≡ drop (reach End tokens.now + 1) tokens.now }
 {
-    parted(tokens, tokens.iter().position(|placed| ends(placed)))
+    parted(tokens, Stop::End)
 }
 
 /// The tokens of the first operand of a statement's, and those behind its comma.
 pub fn next_operand<'t, 'a>(tokens: &'t [Placed<'a>]) -> (&'t [Placed<'a>], &'t [Placed<'a>])
-    ensures operand { result.0.now ≡ front_by (position is_comma tokens.now) tokens.now }
-    ensures rest { result.1.now ≡ back_by (position is_comma tokens.now) tokens.now }
+    ensures operand { result.0.now ≡ take (reach Comma tokens.now) tokens.now }
+    ensures rest { result.1.now ≡ drop (reach Comma tokens.now + 1) tokens.now }
 {
-    parted(tokens, tokens.iter().position(|placed| is_comma(placed)))
+    parted(tokens, Stop::Comma)
 }
 
 /// The first label of a statement, a word before a `:`, and the tokens behind it.
@@ -35,31 +44,38 @@ pub fn next_label<'t, 'a>(tokens: &'t [Placed<'a>]) -> Option<(&'a [u8], &'t [Pl
     }
 }
 
-/// The tokens before a place, and those behind it; without a place all, and none.
-fn parted<'t, 'a>(
-    tokens: &'t [Placed<'a>],
-    place: Option<usize>,
-) -> (&'t [Placed<'a>], &'t [Placed<'a>])
-    requires { IfSome place (λ i. i < length tokens.now) }
-    ensures front { result.0.now ≡ front_by place tokens.now }
-    ensures back { result.1.now ≡ back_by place tokens.now }
+/// The tokens before the first stop, and those behind it; without one all, and none.
+fn parted<'t, 'a>(tokens: &'t [Placed<'a>], stop: Stop) -> (&'t [Placed<'a>], &'t [Placed<'a>])
+    ensures front { result.0.now ≡ take (reach stop tokens.now) tokens.now }
+    ensures back { result.1.now ≡ drop (reach stop tokens.now + 1) tokens.now }
 {
-    match place {
-        Some(i) => (&tokens[..i], &tokens[i + 1..]),
-        None => tokens.split_at(tokens.len()),
+    let n = reach(tokens, stop);
+    if n < tokens.len() {
+        (&tokens[..n], &tokens[n + 1..])
+    } else {
+        tokens.split_at(n)
     }
 }
 
-/// Whether a token ends a statement.
-fn ends(placed: &Placed<'_>) -> bool
-    ensures { result ≡ ends placed.now }
+/// The number of tokens before the first stop.
+fn reach(tokens: &[Placed<'_>], stop: Stop) -> usize
+    ensures reach { result ≡ reach stop tokens.now }
+    ensures within { result ≤ length tokens.now }
 {
-    matches!(placed.token, Token::End)
+    for (i, placed) in tokens.iter().enumerate() {
+        if stops(stop, placed) {
+            return i;
+        }
+    }
+    tokens.len()
 }
 
-/// Whether a token is a comma.
-fn is_comma(placed: &Placed<'_>) -> bool
-    ensures { result ≡ is_comma placed.now }
+/// Whether a token is such a stop.
+fn stops(stop: Stop, placed: &Placed<'_>) -> bool
+    ensures { result ≡ stops stop placed.now }
 {
-    matches!(placed.token, Token::Mark(Mark::Comma))
+    match stop {
+        Stop::End => matches!(placed.token, Token::End),
+        Stop::Comma => matches!(placed.token, Token::Mark(Mark::Comma)),
+    }
 }

@@ -57,7 +57,7 @@ pub fn next_term<'t, 'a>(tokens: &'t [Placed<'a>], needs_sign: bool) -> Option<F
 
 /// Whether a sign is a `-`. None: the token is no sign.
 fn sign_of(token: Token<'_>) -> Option<bool>
-    ensures { result ≡ sign_of (lexeme_of token) }
+    ensures { result ≡ sign_of (lexeme_of token.entry) }
 {
     match token {
         Token::Mark(Mark::Plus) => Some(false),
@@ -68,7 +68,7 @@ fn sign_of(token: Token<'_>) -> Option<bool>
 
 /// The term that a token is, if it is one: a number, or a name, which doesn't begin with a digit unless it is a local label.
 fn term_of(token: Token<'_>) -> Option<Term<'_>>
-    ensures { option_map meaning_of result ≡ term_of (lexeme_of token) }
+    ensures { option_map meaning_of result ≡ term_of (lexeme_of token.entry) }
 {
     match token {
         Token::Word(word) => word_term(word),

@@ -1,2 +1,1 @@
-pub mod Quotients
 mod WorkedRows
