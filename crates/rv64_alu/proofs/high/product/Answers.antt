@@ -1,4 +1,5 @@
-use Rattle.std.proofs.Common.{◌*ℤ◌, ◌-◌, ◌^◌, FitsSigned, arith, lit<, w128}
+use Rattle.std.proofs.Common.{◌*ℤ◌, ◌-◌, ◌^◌, FitsSigned, arith, lit<}
+use Rattle.std.specs.Int.{w128}
 use Rattle.std.proofs.lemmas.Int.{fits_signed_mul, to_z-of_z}
 use Rattle.rv64_alu.proofs.high.product.Goals as goal
 
