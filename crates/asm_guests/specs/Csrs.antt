@@ -15,18 +15,19 @@ use Rattle.asm_guests.specs.States.{behind, known, put, value_in}
 
 -- ---- the bits of sstatus: SIE is bit 1, SPIE bit 5, SPP bit 8 (Privileged 4.1.1)
 
-abbrev pub bit_if : Bool → (place : ℕ) → ℕ
-bit_if is_set place = if is_set then 2 ^ place else 0
+-- what a bit is worth, if it is set
+abbrev pub bit_if : Bool → (worth : ℕ) → ℕ
+bit_if is_set worth = if is_set then worth else 0
 
 abbrev pub has_bit : (value place : ℕ) → Bool
 has_bit value place = bit_at value place == 1
 
 abbrev pub sstatus_of : Csrs → ℕ
-sstatus_of csrs = bit_if csrs.interrupts 1 + bit_if csrs.interrupts_before 5 + bit_if csrs.from_supervisor 8
+sstatus_of csrs = bit_if csrs.interrupts 2 + bit_if csrs.interrupts_before 32 + bit_if csrs.from_supervisor 256
 
 -- the bits that sie keeps: SSIE is bit 1, STIE bit 5 (Privileged 4.1.3)
 abbrev pub kept_sie : ℕ → ℕ
-kept_sie value = bit_if (has_bit value 1) 1 + bit_if (has_bit value 5) 5
+kept_sie value = bit_if (has_bit value 1) 2 + bit_if (has_bit value 5) 32
 
 -- ---- reading
 

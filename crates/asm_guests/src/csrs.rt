@@ -71,9 +71,9 @@ impl Csrs {
     fn sstatus(&self) -> u64
         ensures { result ≡ sstatus_of self.now }
     {
-        bit_if(self.interrupts, 1)
-            + bit_if(self.interrupts_before, 5)
-            + bit_if(self.from_supervisor, 8)
+        bit_if(self.interrupts, 2)
+            + bit_if(self.interrupts_before, 32)
+            + bit_if(self.from_supervisor, 256)
     }
 
     /// Writes a CSR. satp and sie keep what the board keeps, and sepc no bit below 2 (Privileged 4.1.3, 4.1.7, 4.1.11).
@@ -98,13 +98,12 @@ impl Csrs {
     }
 }
 
-/// A bit at a place below 16, or 0.
-fn bit_if(is_set: bool, place: u32) -> u64
-    requires { place ≤ 15 }
-    ensures bit { result ≡ bit_if is_set place }
-    ensures small { result ≤ 2 ^ 15 }
+/// What a bit is worth, if it is set.
+fn bit_if(is_set: bool, worth: u64) -> u64
+    ensures bit { result ≡ bit_if is_set worth }
+    ensures small { result ≤ worth }
 {
-    if is_set { 1 << place } else { 0 }
+    if is_set { worth } else { 0 }
 }
 
 /// Whether a value has the bit at a place.
@@ -112,14 +111,14 @@ pub(crate) fn has_bit(value: u64, place: u32) -> bool
     requires { place ≤ 15 }
     ensures { result ≡ has_bit value place }
 {
-    value >> place & 1 == 1
+    (value >> place) % 2 == 1
 }
 
 /// The bits that sie keeps: SSIE and STIE.
 fn kept_sie(value: u64) -> u64
     ensures { result ≡ kept_sie value }
 {
-    bit_if(has_bit(value, 1), 1) + bit_if(has_bit(value, 5), 5)
+    bit_if(has_bit(value, 1), 2) + bit_if(has_bit(value, 5), 32)
 }
 
 /// Whether the board has the CSR: a write is an operation of the board.

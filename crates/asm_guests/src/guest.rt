@@ -18,7 +18,7 @@ pub trait Code {
     ghost use Rattle.rv64_instructions.specs.declared.instruction.Instruction.{Instruction};
 
     // The instruction at each address.
-    ghost at: { Self → ℕ → Option Instruction };
+    ghost instructions: { Self → ℕ → Option Instruction };
 
     // The addresses at which sections end.
     ghost ends: { Self → ℕ → Bool };
@@ -28,7 +28,7 @@ pub trait Code {
 
     /// The instruction at an address, if there is one.
     fn instruction_at(&self, pc: u64) -> Option<Instruction>
-        ensures { result ≡ at self.now pc };
+        ensures { result ≡ instructions self.now pc };
 
     /// Whether a section ends at an address.
     fn is_end(&self, pc: u64) -> bool
@@ -74,7 +74,7 @@ const MOST_STEPS: u32 = 100_000;
 /// The guest at an entry.
 pub fn at_entry<C: Code>(code: &C, addr: u64, hart: u64, opaque: u64) -> Guest
     ensures { result ≡ at_entry
-        (record { instruction = C.at code.now; is_end = C.ends code.now; spaces = C.widths code.now }) addr hart opaque }
+        (record { instruction = C.instructions code.now; is_end = C.ends code.now; spaces = C.widths code.now }) addr hart opaque }
 {
     settle(code, State::entered(addr, hart, opaque), MOST_STEPS)
 }
@@ -82,7 +82,7 @@ pub fn at_entry<C: Code>(code: &C, addr: u64, hart: u64, opaque: u64) -> Guest
 /// The guest behind an operation with this reply.
 pub fn after<C: Code>(code: &C, guest: Guest, reply: Reply) -> Guest
     ensures { result ≡ after
-        (record { instruction = C.at code.now; is_end = C.ends code.now; spaces = C.widths code.now }) guest reply }
+        (record { instruction = C.instructions code.now; is_end = C.ends code.now; spaces = C.widths code.now }) guest reply }
 {
     match guest {
         Guest::Before(instruction, state) => {
@@ -117,7 +117,7 @@ pub fn next_op(guest: &Guest) -> Option<Op>
 /// The guest from a state on, after its local steps, of which it may do so many.
 fn settle<C: Code>(code: &C, from: State, most: u32) -> Guest
     ensures { result ≡ settled
-        (record { instruction = C.at code.now; is_end = C.ends code.now; spaces = C.widths code.now }) most from }
+        (record { instruction = C.instructions code.now; is_end = C.ends code.now; spaces = C.widths code.now }) most from }
 {
     let mut state = from;
     let mut left = most;
