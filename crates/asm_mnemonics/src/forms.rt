@@ -4,7 +4,7 @@ use rv64_instructions::CsrHow;
 
 /// The operands of an instruction, and what it does with them.
 #[derive(Clone, Copy, Debug, PartialEq, Eq)]
-pub enum Form {
+pub enum OperandForm {
     /// `rd, rs1, rs2`: an operation on two registers.
     Registers(AluOp),
     /// `rd, rs1, imm`: an operation on a register and an immediate of 12 bits, which is signed.

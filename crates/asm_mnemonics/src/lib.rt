@@ -5,5 +5,5 @@
 mod forms;
 mod mnemonics;
 
-pub use forms::{Copied, Form};
-pub use mnemonics::{MNEMONICS, form_of};
+pub use forms::{Copied, OperandForm};
+pub use mnemonics::{MNEMONICS, operands_of};

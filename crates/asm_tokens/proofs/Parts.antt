@@ -1,21 +1,21 @@
 -- Parts of a text, one after another: one more at the end, and that there is one way to read a text.
 use Rattle.std.proofs.Common.{◌≡◌, ◌⊎◌, ℕ, List, [], ◌∷◌, ◌++◌, length, refl, sym, ap, ◌∙◌, subst, inl, inr}
-use Rattle.asm_tokens.specs.declared.tokens.Wrong.{Wrong}
-use Rattle.asm_tokens.specs.declared.reader.Fault.{Fault}
+use Rattle.asm_tokens.specs.declared.tokens.BadText.{BadText}
+use Rattle.asm_tokens.specs.declared.reader.TokenFault.{TokenFault}
 use Rattle.asm_tokens.specs.Tokens.{Lexeme, Reading, first}
 use Rattle.asm_tokens.specs.Tokens.Reading.{Begins, Gap, Faulty, Over}
-use Rattle.asm_tokens.specs.Readings.{AreTokens, HasOneReading, IsFault, Part, ReadsTo, Spot, taken}
-use Rattle.asm_tokens.specs.Readings.Part.{Passed, Took}
+use Rattle.asm_tokens.specs.Readings.{AreTokens, HasOneRow, IsFault, TextPart, ReadsTo, TokenSpot, taken}
+use Rattle.asm_tokens.specs.Readings.TextPart.{Passed, Took}
 
 -- ---- one more part
 
-pub passed_more : (text : List ℕ) (parts : List Part) (rest after : List ℕ) → ReadsTo text parts rest → first rest ≡ Gap after
+pub passed_more : (text : List ℕ) (parts : List TextPart) (rest after : List ℕ) → ReadsTo text parts rest → first rest ≡ Gap after
     → ReadsTo text (parts ++ Passed ∷ []) after
 passed_more text [] rest after reads gap = (after, ap first reads ∙ gap, refl)
 passed_more text (Passed ∷ parts) rest after reads gap = (reads.0, reads.1, passed_more reads.0 parts rest after reads.2 gap)
 passed_more text (Took spot ∷ parts) rest after reads gap = (reads.0, reads.1, reads.2, passed_more reads.0 parts rest after reads.3 gap)
 
-pub took_more : (text : List ℕ) (parts : List Part) (rest after : List ℕ) (spot : Spot) → ReadsTo text parts rest
+pub took_more : (text : List ℕ) (parts : List TextPart) (rest after : List ℕ) (spot : TokenSpot) → ReadsTo text parts rest
     → first rest ≡ Begins spot.lexeme after → spot.left ≡ length rest → ReadsTo text (parts ++ Took spot ∷ []) after
 took_more text [] rest after spot reads begins left = (after, ap first reads ∙ begins, left ∙ sym (ap length reads), refl)
 took_more text (Passed ∷ parts) rest after spot reads begins left =
@@ -23,21 +23,21 @@ took_more text (Passed ∷ parts) rest after spot reads begins left =
 took_more text (Took one ∷ parts) rest after spot reads begins left =
     (reads.0, reads.1, reads.2, took_more reads.0 parts rest after spot reads.3 begins left)
 
-pub taken-passed : (parts : List Part) → taken (parts ++ Passed ∷ []) ≡ taken parts
+pub taken-passed : (parts : List TextPart) → taken (parts ++ Passed ∷ []) ≡ taken parts
 taken-passed [] = refl
 taken-passed (Passed ∷ parts) = taken-passed parts
-taken-passed (Took spot ∷ parts) = ap (λ (spots : List Spot). spot ∷ spots) (taken-passed parts)
+taken-passed (Took spot ∷ parts) = ap (λ (spots : List TokenSpot). spot ∷ spots) (taken-passed parts)
 
-pub taken-took : (parts : List Part) (spot : Spot) → taken (parts ++ Took spot ∷ []) ≡ taken parts ++ spot ∷ []
+pub taken-took : (parts : List TextPart) (spot : TokenSpot) → taken (parts ++ Took spot ∷ []) ≡ taken parts ++ spot ∷ []
 taken-took [] spot = refl
 taken-took (Passed ∷ parts) spot = taken-took parts spot
-taken-took (Took one ∷ parts) spot = ap (λ (spots : List Spot). one ∷ spots) (taken-took parts spot)
+taken-took (Took one ∷ parts) spot = ap (λ (spots : List TokenSpot). one ∷ spots) (taken-took parts spot)
 
 -- ---- one reading
 
 -- a text that begins with no part
 Stops : List ℕ → Type 0
-Stops text = (first text ≡ Over) ⊎ ((wrong : Wrong) × (first text ≡ Faulty wrong))
+Stops text = (first text ≡ Over) ⊎ ((wrong : BadText) × (first text ≡ Faulty wrong))
 
 no_gap : (text rest after : List ℕ) → text ≡ rest → Stops rest → first text ≡ Gap after → ⊥
 unfolding Stops
@@ -50,7 +50,7 @@ no_token text rest after lexeme same (inl over) begins = let e : first text ≡ 
 no_token text rest after lexeme same (inr wrong) begins =
     let e : first text ≡ first rest = ap first same in let w = wrong.1 in cc
 
-same_parts : (text : List ℕ) (a b : List Part) (r s : List ℕ) → ReadsTo text a r → ReadsTo text b s → Stops r → Stops s
+same_parts : (text : List ℕ) (a b : List TextPart) (r s : List ℕ) → ReadsTo text a r → ReadsTo text b s → Stops r → Stops s
     → (a ≡ b) × (r ≡ s)
 same_parts text [] [] r s ra rb stops also = (refl, sym ra ∙ rb)
 same_parts text [] (Passed ∷ b) r s ra rb stops also = absurd (no_gap text r rb.0 ra stops rb.1)
@@ -63,7 +63,7 @@ same_parts text (Passed ∷ a) (Passed ∷ b) r s ra rb stops also =
     let both : Gap ra.0 ≡ Gap rb.0 = sym ra.1 ∙ rb.1 in
     let after : ra.0 ≡ rb.0 = cc in
     let more = same_parts rb.0 a b r s (subst (λ (t : List ℕ). ReadsTo t a r) after ra.2) rb.2 stops also in
-    (ap (λ (parts : List Part). Passed ∷ parts) more.0, more.1)
+    (ap (λ (parts : List TextPart). Passed ∷ parts) more.0, more.1)
 same_parts text (Took one ∷ a) (Took other ∷ b) r s ra rb stops also =
     let both : Begins one.lexeme ra.0 ≡ Begins other.lexeme rb.0 = sym ra.1 ∙ rb.1 in
     let after : ra.0 ≡ rb.0 = cc in
@@ -73,7 +73,7 @@ same_parts text (Took one ∷ a) (Took other ∷ b) r s ra rb stops also =
     let more = same_parts rb.0 a b r s (subst (λ (t : List ℕ). ReadsTo t a r) after ra.3) rb.3 stops also in
     ((λ i. Took (spot i) ∷ more.0 i), more.1)
 
-pub one_reading_of : (text : List ℕ) → HasOneReading text
+pub one_reading_of : (text : List ℕ) → HasOneRow text
 unfolding Stops
 one_reading_of text = record {
   tokens = λ some others a b.

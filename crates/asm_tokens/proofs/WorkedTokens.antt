@@ -1,10 +1,10 @@
 -- Worked tokens, names of registers and numbers, computed from the definitions.
 use Rattle.std.proofs.Common.{◌≡◌, List, [], ◌∷◌, codes, Some, None, true, false, refl}
 use Rattle.asm_tokens.specs.declared.marks.Mark.TheVariants.{Comma, Slash}
-use Rattle.asm_tokens.specs.declared.tokens.Wrong.TheVariants.{BadByte, OpenComment, OpenString}
-use Rattle.asm_tokens.specs.Numbers.{number_in}
+use Rattle.asm_tokens.specs.declared.tokens.BadText.TheVariants.{BadByte, OpenComment, OpenString}
+use Rattle.asm_tokens.specs.Numbers.{asm_number_in}
 use Rattle.asm_tokens.specs.Registers.{register_in}
-use Rattle.asm_tokens.specs.Terms.{is_local}
+use Rattle.asm_tokens.specs.Terms.{is_local_label}
 use Rattle.asm_tokens.specs.Tokens.{first}
 use Rattle.asm_tokens.specs.Tokens.Lexeme.{End, Mark, Text, Word}
 use Rattle.asm_tokens.specs.Tokens.Reading.{Begins, Faulty, Gap, Over}
@@ -97,32 +97,32 @@ leading_zero = refl
 
 -- ---- numbers
 
-decimal : number_in (codes "42") ≡ Some 42
-unfolding number_in
+decimal : asm_number_in (codes "42") ≡ Some 42
+unfolding asm_number_in
 decimal = refl
 
-octal : number_in (codes "042") ≡ Some 34
-unfolding number_in
+octal : asm_number_in (codes "042") ≡ Some 34
+unfolding asm_number_in
 octal = refl
 
-no_octal : number_in (codes "09") ≡ None
-unfolding number_in
+no_octal : asm_number_in (codes "09") ≡ None
+unfolding asm_number_in
 no_octal = refl
 
-hexadecimal : number_in (codes "0x2A") ≡ Some 42
-unfolding number_in
+hexadecimal : asm_number_in (codes "0x2A") ≡ Some 42
+unfolding asm_number_in
 hexadecimal = refl
 
-binary : number_in (codes "0b101010") ≡ Some 42
-unfolding number_in
+binary : asm_number_in (codes "0b101010") ≡ Some 42
+unfolding asm_number_in
 binary = refl
 
-too_large : number_in (codes "0x10000000000000000") ≡ None
-unfolding number_in
+too_large : asm_number_in (codes "0x10000000000000000") ≡ None
+unfolding asm_number_in
 too_large = refl
 
-backward : is_local (codes "12b") ≡ true
+backward : is_local_label (codes "12b") ≡ true
 backward = refl
 
-no_direction : is_local (codes "12") ≡ false
+no_direction : is_local_label (codes "12") ≡ false
 no_direction = refl

@@ -7,8 +7,8 @@ use Rattle.asm_tokens.specs.declared.marks.Mark as marks
 use Rattle.asm_tokens.specs.Marks.{mark_of}
 
 -- a blank, a tab or a carriage return
-abbrev pub is_blank : ℕ → Bool
-is_blank b = (b == 32) || (b == 9) || (b == 13)
+abbrev pub is_asm_blank : ℕ → Bool
+is_asm_blank b = (b == 32) || (b == 9) || (b == 13)
 
 -- a byte of a word: a digit, a letter, `_`, `.` or `$`
 abbrev pub is_letter : ℕ → Bool
@@ -27,7 +27,7 @@ marked (Some mark) = Mark mark
 -- nothing.
 abbrev pub class_of : ℕ → ByteClass
 class_of b =
-    if is_blank b then Blank
+    if is_asm_blank b then Blank
     else (if is_letter b then Letter
     else (if (b == 10) || (b == 59) then End
     else (if b == 35 then Hash

@@ -18,8 +18,8 @@ abbrev pub begins_with : (front word : List ℕ) → Bool
 begins_with front word = bytes_eq (take (length front) word) front
 
 -- The number that a word spells: `0x` and hexadecimal digits, `0b` and binary ones, a `0` and octal ones, or decimal ones.
-unfoldable pub number_in : List ℕ → Option ℕ
-number_in word =
+unfoldable pub asm_number_in : List ℕ → Option ℕ
+asm_number_in word =
     if begins_with (codes "0x") word then numeral_in 16 (drop 2 word)
     else (if begins_with (codes "0b") word then numeral_in 2 (drop 2 word)
     else (if begins_with (codes "0") word then numeral_in 8 word

@@ -2,11 +2,11 @@
 use Rattle.std.specs.Prelude.{ℕ, suc, ◌+◌, Bool, not, ◌&&◌, ◌==◌, if◌then◌else◌, List, [], ◌∷◌, drop, Option, Some, None}
 use Rattle.asm_tokens.specs.declared.runs.Run.{Run}
 use Rattle.asm_tokens.specs.declared.runs.Run.TheVariants.{Blanks, Word, Line}
-use Rattle.asm_tokens.specs.Bytes.{is_blank, is_inline, is_letter}
+use Rattle.asm_tokens.specs.Bytes.{is_asm_blank, is_inline, is_letter}
 
 -- whether a byte belongs to such a run
 abbrev pub is_in : Run → ℕ → Bool
-is_in Blanks b = is_blank b
+is_in Blanks b = is_asm_blank b
 is_in Word b = is_letter b
 is_in Line b = is_inline b
 

@@ -18,14 +18,14 @@ abbrev pub is_comma : Lexeme → Bool
 is_comma (Mark Comma) = true
 is_comma lexeme = false
 
-abbrev pub stops : Stop → Placed → Bool
-stops until.End placed = is_end (lexeme_of placed.token)
-stops until.Comma placed = is_comma (lexeme_of placed.token)
+abbrev pub ends_at : Stop → Placed → Bool
+ends_at until.End placed = is_end (lexeme_of placed.token)
+ends_at until.Comma placed = is_comma (lexeme_of placed.token)
 
 -- The number of tokens before the first stop: those of a statement, or of an operand.
 abbrev pub reach : Stop → List Placed → ℕ
 reach stop [] = 0
-reach stop (placed ∷ tokens) = if stops stop placed then 0 else suc (reach stop tokens)
+reach stop (placed ∷ tokens) = if ends_at stop placed then 0 else suc (reach stop tokens)
 
 -- a label before other tokens, if they begin with a word and a `:`
 abbrev pub label_by : Lexeme → Lexeme → List Placed → Option (List ℕ × List Placed)

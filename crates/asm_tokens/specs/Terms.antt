@@ -3,30 +3,30 @@ use Rattle.std.specs.Prelude.{ℕ, Bool, true, false, not, ◌&&◌, ◌||◌, �
 use Rattle.std.specs.Int.{is_in_range}
 use Rattle.asm_tokens.specs.declared.marks.Mark.TheVariants.{Plus, Minus}
 use Rattle.asm_tokens.specs.declared.reader.Placed.{Placed}
-use Rattle.asm_tokens.specs.declared.terms.Found.{Found}
+use Rattle.asm_tokens.specs.declared.terms.FoundTerm.{FoundTerm}
 use Rattle.asm_tokens.specs.declared.terms.Term.{Term}
 use Rattle.asm_tokens.specs.declared.terms.Term.TheVariants as terms
-use Rattle.asm_tokens.specs.Numbers.{number_in}
+use Rattle.asm_tokens.specs.Numbers.{asm_number_in}
 use Rattle.asm_tokens.specs.Tokens.{Lexeme, lexeme_of}
 use Rattle.asm_tokens.specs.Tokens.Lexeme.{Word, Mark}
 
 -- a term, without where it lies in memory
-pub data Meaning : Type 0 where
-  IsNumber : ℕ → Meaning
-  IsName : List ℕ → Meaning
+pub data TermMeaning : Type 0 where
+  IsNumber : ℕ → TermMeaning
+  IsName : List ℕ → TermMeaning
 
-abbrev pub meaning_of : Term → Meaning
-meaning_of (terms.Number n) = IsNumber n
-meaning_of (terms.Name name) = IsName name.now
+abbrev pub term_meaning : Term → TermMeaning
+term_meaning (terms.Number n) = IsNumber n
+term_meaning (terms.Name name) = IsName name.now
 
 -- a term with its sign, and the tokens behind it
 pub record Signed : Type 0 where
   pub is_minus : Bool
-  pub meaning : Meaning
+  pub meaning : TermMeaning
   pub rest : List Placed
 
-abbrev pub found_term : Found → Signed
-found_term found = record { is_minus = found.is_minus; meaning = meaning_of found.term; rest = found.rest.now }
+abbrev pub found_term : FoundTerm → Signed
+found_term found = record { is_minus = found.is_minus; meaning = term_meaning found.term; rest = found.rest.now }
 
 -- ---- words
 
@@ -47,22 +47,22 @@ abbrev pub is_local_behind : List ℕ → Bool
 is_local_behind [] = false
 is_local_behind (b ∷ word) = if is_decimal b then is_local_behind word else is_direction (b ∷ word)
 
-abbrev pub is_local : List ℕ → Bool
-is_local word = begins_number word && is_local_behind word
+abbrev pub is_local_label : List ℕ → Bool
+is_local_label word = begins_number word && is_local_behind word
 
 -- the term that a word is, if it doesn't spell a number: a name, which begins with a digit only if it is a local label
-abbrev pub named : List ℕ → Option Meaning
-named word = if begins_number word && not (is_local word) then None else Some (IsName word)
+abbrev pub name_term : List ℕ → Option TermMeaning
+name_term word = if begins_number word && not (is_local_label word) then None else Some (IsName word)
 
-abbrev pub number_or : Option ℕ → Option Meaning → Option Meaning
-number_or None other = other
-number_or (Some n) other = Some (IsNumber n)
+abbrev pub number_or_name : Option ℕ → Option TermMeaning → Option TermMeaning
+number_or_name None other = other
+number_or_name (Some n) other = Some (IsNumber n)
 
 -- the term that a word is, if it is one
-abbrev pub word_term : List ℕ → Option Meaning
-word_term word = number_or (number_in word) (named word)
+abbrev pub word_term : List ℕ → Option TermMeaning
+word_term word = number_or_name (asm_number_in word) (name_term word)
 
-abbrev pub term_of : Lexeme → Option Meaning
+abbrev pub term_of : Lexeme → Option TermMeaning
 term_of (Word word) = word_term word
 term_of lexeme = None
 
@@ -74,7 +74,7 @@ sign_of (Mark Plus) = Some false
 sign_of (Mark Minus) = Some true
 sign_of lexeme = None
 
-abbrev pub signed : (is_minus : Bool) → List Placed → Option Meaning → Option Signed
+abbrev pub signed : (is_minus : Bool) → List Placed → Option TermMeaning → Option Signed
 signed is_minus rest None = None
 signed is_minus rest (Some meaning) = Some (record { is_minus = is_minus; meaning = meaning; rest = rest })
 

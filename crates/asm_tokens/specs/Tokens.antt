@@ -9,8 +9,8 @@ use Rattle.asm_tokens.specs.declared.tokens.Token.{Token}
 use Rattle.asm_tokens.specs.declared.tokens.Token.TheVariants as tokens
 use Rattle.asm_tokens.specs.declared.tokens.First.{First}
 use Rattle.asm_tokens.specs.declared.tokens.First.TheVariants as firsts
-use Rattle.asm_tokens.specs.declared.tokens.Wrong as wrongs
-use Rattle.asm_tokens.specs.declared.tokens.Wrong.TheVariants.{BadByte, OpenString, OpenComment}
+use Rattle.asm_tokens.specs.declared.tokens.BadText as wrongs
+use Rattle.asm_tokens.specs.declared.tokens.BadText.TheVariants.{BadByte, OpenString, OpenComment}
 use Rattle.asm_tokens.specs.Bytes.{class_of}
 use Rattle.asm_tokens.specs.Runs.{behind_comment, closing_quote, drop_run, run_length}
 
@@ -28,7 +28,7 @@ pub data Reading : Type 0 where
   Over : Reading
   Gap : List ℕ → Reading
   Begins : Lexeme → List ℕ → Reading
-  Faulty : wrongs.Wrong → Reading
+  Faulty : wrongs.BadText → Reading
 
 abbrev pub lexeme_of : Token → Lexeme
 lexeme_of (tokens.Word word) = Word word.now
@@ -52,8 +52,8 @@ LeavesLess (firsts.Wrong wrong) n = Unit {0}
 -- ---- what a text begins with, by its first byte; `after` is the text behind that byte
 
 -- the longest word
-abbrev pub word_of : (text after : List ℕ) → Reading
-word_of text after = Begins (Word (take (run_length runs.Word after + 1) text)) (drop_run runs.Word after)
+abbrev pub word_reading : (text after : List ℕ) → Reading
+word_reading text after = Begins (Word (take (run_length runs.Word after + 1) text)) (drop_run runs.Word after)
 
 abbrev pub string_by : Option ℕ → List ℕ → Reading
 string_by None after = Faulty OpenString
@@ -78,7 +78,7 @@ slash_of (b ∷ inside) = if b == 42 then comment_of inside else Begins (Mark Sl
 
 abbrev pub reading_by : ByteClass → (text after : List ℕ) → Reading
 reading_by classes.Blank text after = Gap (drop_run runs.Blanks after)
-reading_by classes.Letter text after = word_of text after
+reading_by classes.Letter text after = word_reading text after
 reading_by classes.End text after = Begins End after
 reading_by classes.Hash text after = Gap (drop_run runs.Line after)
 reading_by classes.Quote text after = string_of after

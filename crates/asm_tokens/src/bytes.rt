@@ -1,6 +1,6 @@
 //! Bytes, by what they begin.
 ghost use Rattle.std.specs.Prelude.{◌≡◌};
-ghost use Rattle.asm_tokens.specs.Bytes.{class_of, is_blank, is_inline, is_letter, marked};
+ghost use Rattle.asm_tokens.specs.Bytes.{class_of, is_asm_blank, is_inline, is_letter, marked};
 
 use crate::marks::{Mark, mark_of};
 
@@ -29,7 +29,7 @@ pub(crate) enum ByteClass {
 pub(crate) fn class_of(byte: u8) -> ByteClass
     ensures { result ≡ class_of byte }
 {
-    if is_blank(byte) {
+    if is_asm_blank(byte) {
         return ByteClass::Blank;
     }
     if is_letter(byte) {
@@ -55,8 +55,8 @@ fn marked(mark: Option<Mark>) -> ByteClass
 }
 
 /// Whether a byte is a blank, a tab or a carriage return.
-pub(crate) fn is_blank(byte: u8) -> bool
-    ensures { result ≡ is_blank byte }
+pub(crate) fn is_asm_blank(byte: u8) -> bool
+    ensures { result ≡ is_asm_blank byte }
 {
     matches!(byte, b' ' | b'\t' | b'\r')
 }

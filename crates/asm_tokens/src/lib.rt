@@ -13,12 +13,12 @@ mod statements;
 mod terms;
 mod tokens;
 
-pub use laws::one_reading;
+pub use laws::one_row;
 pub use marks::Mark;
-pub use numbers::number;
-pub use places::{Place, place_at};
-pub use reader::{Fault, Placed, ReadFault, read_tokens};
+pub use numbers::asm_number;
+pub use places::{TextPlace, place_at};
+pub use reader::{Placed, TokenFault, TokensFault, read_tokens};
 pub use registers::register_number;
 pub use statements::{next_label, next_operand, next_statement};
-pub use terms::{Found, Term, next_term};
-pub use tokens::{First, Token, Wrong, first_token};
+pub use terms::{FoundTerm, Term, next_term};
+pub use tokens::{BadText, First, Token, first_token};

@@ -1,14 +1,14 @@
 //! Numbers, as words spell them.
 ghost use Rattle.std.specs.Prelude.{◌≡◌, ◌≤◌};
-ghost use Rattle.asm_tokens.specs.Numbers.{number_in, numeral_in};
+ghost use Rattle.asm_tokens.specs.Numbers.{asm_number_in, numeral_in};
 
 use line_words::push_digit;
 
 /// The number that a word spells, if it spells one below 2^64: decimal digits, `0x` and hexadecimal ones, `0b` and binary ones,
 /// or a `0` and octal ones (GNU as, Integers).
-#[tactic(auto, unfolding(crate::specs::Numbers::number_in))]
-pub fn number(word: &[u8]) -> Option<u64>
-    ensures { result ≡ number_in word.now }
+#[tactic(auto, unfolding(crate::specs::Numbers::asm_number_in))]
+pub fn asm_number(word: &[u8]) -> Option<u64>
+    ensures { result ≡ asm_number_in word.now }
 {
     if let Some(digits) = word.strip_prefix(b"0x") {
         return numeral(digits, 16);

@@ -4,7 +4,7 @@ ghost use Rattle.asm_tokens.specs.Places.{place_in};
 
 /// A place in a text.
 #[derive(Clone, Copy, Debug, PartialEq, Eq)]
-pub struct Place {
+pub struct TextPlace {
     /// The line, from 1.
     pub line: usize,
     /// The column, in bytes from 1.
@@ -12,7 +12,7 @@ pub struct Place {
 }
 
 /// The place from which so many bytes are left to the end.
-pub fn place_at(text: &[u8], left: usize) -> Place
+pub fn place_at(text: &[u8], left: usize) -> TextPlace
     requires { left ≤ length text.now }
     ensures { result ≡ place_in text.now left }
 {
@@ -27,5 +27,5 @@ pub fn place_at(text: &[u8], left: usize) -> Place
             column += 1;
         }
     }
-    Place { line, column }
+    TextPlace { line, column }
 }

@@ -1,9 +1,9 @@
 //! Reads all tokens of a text.
 ghost use Rattle.std.specs.Prelude.{◌≡◌, ◌∷◌, ◌++◌, [], IfErr, IfOk, OnOk, map};
-ghost use Rattle.asm_tokens.specs.declared.reader.ReadFault.TheVariants.{NoMemory};
-ghost use Rattle.asm_tokens.specs.Readings.{AreTokens, IsReadFault, spot_of};
+ghost use Rattle.asm_tokens.specs.declared.reader.TokensFault.TheVariants.{NoMemory};
+ghost use Rattle.asm_tokens.specs.Readings.{AreTokens, IsReadFault, token_spot};
 
-use crate::tokens::{First, Token, Wrong, first_token};
+use crate::tokens::{BadText, First, Token, first_token};
 use std::alloc::{AllocFailed, Global};
 
 /// A token, and its place.
@@ -17,27 +17,27 @@ pub struct Placed<'a> {
 
 /// What is wrong with a text, and its place.
 #[derive(Clone, Copy, Debug, PartialEq, Eq)]
-pub struct Fault {
+pub struct TokenFault {
     /// What is wrong.
-    pub wrong: Wrong,
+    pub wrong: BadText,
     /// The number of bytes from there to the end of the text.
     pub left: usize,
 }
 
 /// Why a text wasn't read.
 #[derive(Clone, Copy, Debug, PartialEq, Eq)]
-pub enum ReadFault {
+pub enum TokensFault {
     /// Its first fault.
-    Wrong(Fault),
+    Wrong(TokenFault),
     /// Memory was refused.
     NoMemory,
 }
 
-impl<T: Drop> From<AllocFailed<T>> for ReadFault {
+impl<T: Drop> From<AllocFailed<T>> for TokensFault {
     ghost from_gives = { λ _ fault. fault ≡ NoMemory };
 
-    fn from(_refused: AllocFailed<T>) -> ReadFault {
-        ReadFault::NoMemory
+    fn from(_refused: AllocFailed<T>) -> TokensFault {
+        TokensFault::NoMemory
     }
 }
 
@@ -46,8 +46,8 @@ impl<T: Drop> From<AllocFailed<T>> for ReadFault {
 /// # Errors
 ///
 /// The text's first fault; or out of memory.
-pub fn read_tokens(alloc: Global, text: &[u8]) -> Result<Vec<Placed<'_>>, ReadFault>
-    ensures tokens { IfOk result (λ tokens. AreTokens text.now (map spot_of tokens.items)) }
+pub fn read_tokens(alloc: Global, text: &[u8]) -> Result<Vec<Placed<'_>>, TokensFault>
+    ensures tokens { IfOk result (λ tokens. AreTokens text.now (map token_spot tokens.items)) }
     ensures fault { IfErr result (λ fault. IsReadFault text.now fault) }
 {
     let mut tokens = Vec::new(alloc);
@@ -61,7 +61,7 @@ pub fn read_tokens(alloc: Global, text: &[u8]) -> Result<Vec<Placed<'_>>, ReadFa
                 tokens.push(Placed { token, left })?;
                 rest = after;
             }
-            First::Wrong(wrong) => return Err(ReadFault::Wrong(Fault { wrong, left })),
+            First::Wrong(wrong) => return Err(TokensFault::Wrong(TokenFault { wrong, left })),
         }
     }
 }

@@ -2,7 +2,7 @@
 ghost use Rattle.std.specs.Prelude.{◌≡◌, ◌≤◌, ◌<◌, false, length, IfSome, option_map};
 ghost use Rattle.asm_tokens.specs.Runs.{behind_comment, closing_quote, is_in, run_length};
 
-use crate::bytes::{is_blank, is_inline, is_letter};
+use crate::bytes::{is_asm_blank, is_inline, is_letter};
 
 /// A run of bytes of one kind.
 #[derive(Clone, Copy, Debug, PartialEq, Eq)]
@@ -20,7 +20,7 @@ fn is_in(run: Run, byte: u8) -> bool
     ensures { result ≡ is_in run byte }
 {
     match run {
-        Run::Blanks => is_blank(byte),
+        Run::Blanks => is_asm_blank(byte),
         Run::Word => is_letter(byte),
         Run::Line => is_inline(byte),
     }

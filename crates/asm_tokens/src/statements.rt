@@ -1,7 +1,7 @@
 //! Statements: their labels, their words, and their operands.
 ghost use Rattle.std.specs.Prelude.{◌≡◌, ◌≤◌, ◌+◌, drop, length, option_map, take};
 ghost use Rattle.asm_tokens.specs.declared.statements.Stop.TheVariants.{Comma, End};
-ghost use Rattle.asm_tokens.specs.Statements.{label_of, reach, stops};
+ghost use Rattle.asm_tokens.specs.Statements.{label_of, reach, ends_at};
 
 use crate::marks::Mark;
 use crate::reader::Placed;
@@ -63,7 +63,7 @@ fn reach(tokens: &[Placed<'_>], stop: Stop) -> usize
     ensures within { result ≤ length tokens.now }
 {
     for (i, placed) in tokens.iter().enumerate() {
-        if stops(stop, placed) {
+        if ends_at(stop, placed) {
             return i;
         }
     }
@@ -71,8 +71,8 @@ fn reach(tokens: &[Placed<'_>], stop: Stop) -> usize
 }
 
 /// Whether a token is such a stop.
-fn stops(stop: Stop, placed: &Placed<'_>) -> bool
-    ensures { result ≡ stops stop placed.now }
+fn ends_at(stop: Stop, placed: &Placed<'_>) -> bool
+    ensures { result ≡ ends_at stop placed.now }
 {
     match stop {
         Stop::End => matches!(placed.token, Token::End),

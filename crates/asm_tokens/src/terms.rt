@@ -1,10 +1,10 @@
 //! Sums of numbers and names. (Products, shifts and parentheses aren't read here.)
 ghost use Rattle.std.specs.Prelude.{◌≡◌, option_map};
-ghost use Rattle.asm_tokens.specs.Terms.{begins_number, found_term, is_direction, is_local, is_local_behind, meaning_of, sign_of, term_in, term_of, word_term};
+ghost use Rattle.asm_tokens.specs.Terms.{begins_number, found_term, is_direction, is_local_label, is_local_behind, term_meaning, sign_of, term_in, term_of, word_term};
 ghost use Rattle.asm_tokens.specs.Tokens.{lexeme_of};
 
 use crate::marks::Mark;
-use crate::numbers::number;
+use crate::numbers::asm_number;
 use crate::reader::Placed;
 use crate::tokens::Token;
 
@@ -19,7 +19,7 @@ pub enum Term<'a> {
 
 /// A term, and what comes with it.
 #[derive(Clone, Copy, Debug)]
-pub struct Found<'t, 'a> {
+pub struct FoundTerm<'t, 'a> {
     /// Whether a `-` stands before it.
     pub is_minus: bool,
     /// The term.
@@ -29,7 +29,7 @@ pub struct Found<'t, 'a> {
 }
 
 /// The first term of a sum; only the first of all needs no sign.
-pub fn next_term<'t, 'a>(tokens: &'t [Placed<'a>], needs_sign: bool) -> Option<Found<'t, 'a>>
+pub fn next_term<'t, 'a>(tokens: &'t [Placed<'a>], needs_sign: bool) -> Option<FoundTerm<'t, 'a>>
     ensures { option_map found_term result ≡ term_in needs_sign tokens.now }
 {
     let (first, behind) = tokens.split_first()?;
@@ -37,7 +37,7 @@ pub fn next_term<'t, 'a>(tokens: &'t [Placed<'a>], needs_sign: bool) -> Option<F
         Some(is_minus) => {
             let (second, rest) = behind.split_first()?;
             let term = term_of(second.token)?;
-            Some(Found {
+            Some(FoundTerm {
                 is_minus,
                 term,
                 rest,
@@ -46,7 +46,7 @@ pub fn next_term<'t, 'a>(tokens: &'t [Placed<'a>], needs_sign: bool) -> Option<F
         None if needs_sign => None,
         None => {
             let term = term_of(first.token)?;
-            Some(Found {
+            Some(FoundTerm {
                 is_minus: false,
                 term,
                 rest: behind,
@@ -68,7 +68,7 @@ fn sign_of(token: Token<'_>) -> Option<bool>
 
 /// The term that a token is, if it is one: a number, or a name, which doesn't begin with a digit unless it is a local label.
 fn term_of(token: Token<'_>) -> Option<Term<'_>>
-    ensures { option_map meaning_of result ≡ term_of (lexeme_of token.entry) }
+    ensures { option_map term_meaning result ≡ term_of (lexeme_of token.entry) }
 {
     match token {
         Token::Word(word) => word_term(word),
@@ -78,11 +78,11 @@ fn term_of(token: Token<'_>) -> Option<Term<'_>>
 
 /// The term that a word is, if it is one.
 fn word_term(word: &[u8]) -> Option<Term<'_>>
-    ensures { option_map meaning_of result ≡ word_term word.now }
+    ensures { option_map term_meaning result ≡ word_term word.now }
 {
-    match number(word) {
+    match asm_number(word) {
         Some(n) => Some(Term::Number(n)),
-        None if begins_number(word) && !is_local(word) => None,
+        None if begins_number(word) && !is_local_label(word) => None,
         None => Some(Term::Name(word)),
     }
 }
@@ -98,8 +98,8 @@ fn begins_number(word: &[u8]) -> bool
 }
 
 /// Whether a word refers to a local label: decimal digits, and then `b` or `f`.
-fn is_local(word: &[u8]) -> bool
-    ensures { result ≡ is_local word.now }
+fn is_local_label(word: &[u8]) -> bool
+    ensures { result ≡ is_local_label word.now }
 {
     begins_number(word) && is_local_behind(word)
 }

@@ -1,6 +1,6 @@
 //! The first token of a text.
 ghost use Rattle.std.specs.Prelude.{◌≡◌, ◌∷◌, ◌<◌, ◌≤◌, ◌+◌, [], length, MatchOption};
-ghost use Rattle.asm_tokens.specs.Tokens.{LeavesLess, comment_of, first, reading_of, slash_of, string_of, word_of};
+ghost use Rattle.asm_tokens.specs.Tokens.{LeavesLess, comment_of, first, reading_of, slash_of, string_of, word_reading};
 ghost use Rattle.asm_tokens.specs.Runs.{drop_run};
 
 use crate::bytes::{ByteClass, class_of};
@@ -22,7 +22,7 @@ pub enum Token<'a> {
 
 /// What is wrong with a text, at its first byte.
 #[derive(Clone, Copy, Debug, PartialEq, Eq)]
-pub enum Wrong {
+pub enum BadText {
     /// A byte that begins no token.
     BadByte,
     /// A string that isn't closed on its line.
@@ -41,7 +41,7 @@ pub enum First<'a> {
     /// A token.
     Begins(Token<'a>, &'a [u8]),
     /// Something wrong.
-    Wrong(Wrong),
+    Wrong(BadText),
 }
 
 /// What a text begins with.
@@ -60,7 +60,7 @@ pub fn first_token(text: &[u8]) -> First<'_>
         ByteClass::Quote => string(after),
         ByteClass::Slash => slash(after),
         ByteClass::Mark(mark) => First::Begins(Token::Mark(mark), after),
-        ByteClass::Other => First::Wrong(Wrong::BadByte),
+        ByteClass::Other => First::Wrong(BadText::BadByte),
     }
 }
 
@@ -83,7 +83,7 @@ fn behind(run: Run, text: &[u8]) -> &[u8]
 /// The word that a text begins with; `after` is the text behind its first byte.
 fn word<'a>(text: &'a [u8], after: &'a [u8]) -> First<'a>
     requires { length text.now ≡ length after.now + 1 }
-    ensures reading { reading_of result ≡ word_of text.now after.now }
+    ensures reading { reading_of result ≡ word_reading text.now after.now }
     ensures shorter { LeavesLess result (length text.now) }
 {
     let n = run_len(Run::Word, after);
@@ -97,7 +97,7 @@ fn string(after: &[u8]) -> First<'_>
 {
     match closing_quote(after) {
         Some(n) => First::Begins(Token::Text(&after[..n]), &after[n + 1..]),
-        None => First::Wrong(Wrong::OpenString),
+        None => First::Wrong(BadText::OpenString),
     }
 }
 
@@ -119,6 +119,6 @@ fn comment(inside: &[u8]) -> First<'_>
 {
     match behind_comment(inside) {
         Some(behind) => First::Gap(behind),
-        None => First::Wrong(Wrong::OpenComment),
+        None => First::Wrong(BadText::OpenComment),
     }
 }

@@ -17,19 +17,19 @@ load_size Lhu = 2
 load_size Lwu = 4
 
 -- the number of bits below the part of so many bytes, naturally aligned, that has the address
-abbrev pub bits_below : (size at : ℕ) → ℕ
-bits_below size at = 8 * (at % 8 - at % size)
+abbrev pub lower_bits : (size at : ℕ) → ℕ
+lower_bits size at = 8 * (at % 8 - at % size)
 
 -- the part of the word, of so many bytes, that has the address
-abbrev pub part : (size at word : ℕ) → ℕ
-part size at word = word / 2 ^ bits_below size at % 2 ^ (8 * size)
+abbrev pub loaded_part : (size at word : ℕ) → ℕ
+loaded_part size at word = word / 2 ^ lower_bits size at % 2 ^ (8 * size)
 
 -- The value that it loads from the word. One with a `u` has zeros above, any other copies of the sign.
 abbrev pub loaded : LoadKind → (at word : ℕ) → ℕ
-loaded Lb at word = cast_unsigned w64 (cast_signed w8 (part 1 at word))
-loaded Lh at word = cast_unsigned w64 (cast_signed w16 (part 2 at word))
-loaded Lw at word = extended (part 4 at word)
+loaded Lb at word = cast_unsigned w64 (cast_signed w8 (loaded_part 1 at word))
+loaded Lh at word = cast_unsigned w64 (cast_signed w16 (loaded_part 2 at word))
+loaded Lw at word = extended (loaded_part 4 at word)
 loaded Ld at word = word
-loaded Lbu at word = part 1 at word
-loaded Lhu at word = part 2 at word
-loaded Lwu at word = part 4 at word
+loaded Lbu at word = loaded_part 1 at word
+loaded Lhu at word = loaded_part 2 at word
+loaded Lwu at word = loaded_part 4 at word

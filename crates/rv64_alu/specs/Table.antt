@@ -5,13 +5,13 @@ use Rattle.rv64_alu.specs.declared.alu.AluOp.{AluOp}
 use Rattle.rv64_alu.specs.declared.alu.AluOp.TheVariants.{Add, Sub, Sll, Slt, Sltu, Xor, Srl, Sra, Or, And, Mul, Mulh, Mulhsu, Mulhu, Div, Divu, Rem, Remu, Word}
 use Rattle.rv64_alu.specs.declared.word.WordOp.{WordOp}
 use Rattle.rv64_alu.specs.declared.word.WordOp.TheVariants as words
-use Rattle.rv64_alu.specs.Functions.{added, divided, divided_signed, high, left_over, left_over_signed, multiplied, shifted_left, shifted_right, shifted_right_signed, subtracted}
+use Rattle.rv64_alu.specs.Functions.{low_sum, divided, divided_signed, high, left_over, left_over_signed, multiplied, shifted_left, shifted_right, shifted_right_signed, subtracted}
 use Rattle.rv64_alu.specs.Words.{as_register, extended, low_word}
 
 -- ---- operations whose names end in `w`, before the sign-extension
 
 abbrev pub computed_word : WordOp → (a b : ℕ) → ℕ
-computed_word words.Add a b = added w32 a b
+computed_word words.Add a b = low_sum w32 a b
 computed_word words.Sub a b = subtracted w32 a b
 computed_word words.Sll a b = shifted_left w32 a b
 computed_word words.Srl a b = shifted_right w32 a b
@@ -25,7 +25,7 @@ computed_word words.Remu a b = left_over w32 a b
 -- ---- all operations
 
 abbrev pub computed : AluOp → (a b : ℕ) → ℕ
-computed Add a b = added w64 a b
+computed Add a b = low_sum w64 a b
 computed Sub a b = subtracted w64 a b
 computed Sll a b = shifted_left w64 a b
 computed Slt a b = as_register (int_lt (cast_signed w64 a) (cast_signed w64 b))

@@ -3,9 +3,9 @@ use Rattle.std.specs.Prelude.{ℕ, ◌%◌, ◌^◌, Bool, if◌then◌else◌}
 use Rattle.std.specs.Int.{Width, cast_signed, cast_unsigned, w32, w64}
 
 -- the number of bits of 4 bytes, or of 8
-abbrev pub width_bits : Width → ℕ
-width_bits w32 = 32
-width_bits w = 64
+abbrev pub bit_count : Width → ℕ
+bit_count w32 = 32
+bit_count w = 64
 
 -- the low 4 bytes of a register
 abbrev pub low_word : ℕ → ℕ

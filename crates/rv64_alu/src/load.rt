@@ -1,6 +1,6 @@
 //! What loads take from a word of 8 bytes.
 ghost use Rattle.std.specs.Prelude.{◌≡◌, ◌≤◌, ◌+◌, ◌*◌, ◌⊎◌};
-ghost use Rattle.rv64_alu.specs.Loads.{bits_below, load_size, loaded, part};
+ghost use Rattle.rv64_alu.specs.Loads.{load_size, loaded, loaded_part, lower_bits};
 
 use crate::word::extended;
 
@@ -41,30 +41,34 @@ impl LoadKind {
         ensures { result ≡ loaded self at word }
     {
         match self {
-            LoadKind::Lb => { i64::from((part(1, at, word) as u8).cast_signed()).cast_unsigned() }
-            LoadKind::Lh => { i64::from((part(2, at, word) as u16).cast_signed()).cast_unsigned() }
-            LoadKind::Lw => extended(part(4, at, word) as u32),
+            LoadKind::Lb => {
+                i64::from((loaded_part(1, at, word) as u8).cast_signed()).cast_unsigned()
+            }
+            LoadKind::Lh => {
+                i64::from((loaded_part(2, at, word) as u16).cast_signed()).cast_unsigned()
+            }
+            LoadKind::Lw => extended(loaded_part(4, at, word) as u32),
             LoadKind::Ld => word,
-            LoadKind::Lbu => part(1, at, word),
-            LoadKind::Lhu => part(2, at, word),
-            LoadKind::Lwu => part(4, at, word),
+            LoadKind::Lbu => loaded_part(1, at, word),
+            LoadKind::Lhu => loaded_part(2, at, word),
+            LoadKind::Lwu => loaded_part(4, at, word),
         }
     }
 }
 
 /// The number of bits below the part of so many bytes that has the address.
-fn bits_below(size: u64, at: u64) -> u64
+fn lower_bits(size: u64, at: u64) -> u64
     requires { (size ≡ 1) ⊎ (size ≡ 2) ⊎ (size ≡ 4) }
-    ensures below { result ≡ bits_below size at }
+    ensures below { result ≡ lower_bits size at }
     ensures within { result + 8 * size ≤ 64 }
 {
     8 * (at % 8 - at % size)
 }
 
 /// The part of the word, of so many bytes, that has the address.
-fn part(size: u64, at: u64, word: u64) -> u64
+fn loaded_part(size: u64, at: u64, word: u64) -> u64
     requires { (size ≡ 1) ⊎ (size ≡ 2) ⊎ (size ≡ 4) }
-    ensures { result ≡ part size at word }
+    ensures { result ≡ loaded_part size at word }
 {
-    (word >> bits_below(size, at)) % (1 << (8 * size))
+    (word >> lower_bits(size, at)) % (1 << (8 * size))
 }
