@@ -2,6 +2,7 @@
 use Rattle.std.proofs.Common.{◌≡◌, List, [], ◌∷◌, codes, Some, None, true, false, refl}
 use Rattle.asm_tokens.specs.declared.marks.Mark.TheVariants.{Comma, Slash}
 use Rattle.asm_tokens.specs.declared.tokens.BadText.TheVariants.{BadByte, OpenComment, OpenString}
+use Rattle.line_words.specs.Values.{digit_after}
 use Rattle.asm_tokens.specs.Numbers.{asm_number_in}
 use Rattle.asm_tokens.specs.Registers.{register_in}
 use Rattle.asm_tokens.specs.Terms.{is_local_label}
@@ -98,27 +99,27 @@ leading_zero = refl
 -- ---- numbers
 
 decimal : asm_number_in (codes "42") ≡ Some 42
-unfolding asm_number_in
+unfolding asm_number_in digit_after
 decimal = refl
 
 octal : asm_number_in (codes "042") ≡ Some 34
-unfolding asm_number_in
+unfolding asm_number_in digit_after
 octal = refl
 
 no_octal : asm_number_in (codes "09") ≡ None
-unfolding asm_number_in
+unfolding asm_number_in digit_after
 no_octal = refl
 
 hexadecimal : asm_number_in (codes "0x2A") ≡ Some 42
-unfolding asm_number_in
+unfolding asm_number_in digit_after
 hexadecimal = refl
 
 binary : asm_number_in (codes "0b101010") ≡ Some 42
-unfolding asm_number_in
+unfolding asm_number_in digit_after
 binary = refl
 
 too_large : asm_number_in (codes "0x10000000000000000") ≡ None
-unfolding asm_number_in
+unfolding asm_number_in digit_after
 too_large = refl
 
 backward : is_local_label (codes "12b") ≡ true
