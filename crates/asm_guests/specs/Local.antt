@@ -4,7 +4,7 @@ use Rattle.std.specs.Int.{w64}
 use Rattle.sv39.specs.declared.paging.Spaces.{Spaces}
 use Rattle.rv64_alu.specs.declared.comparison.Comparison.{Comparison}
 use Rattle.rv64_alu.specs.Comparisons.{is_taken}
-use Rattle.rv64_alu.specs.Functions.{added}
+use Rattle.rv64_alu.specs.Functions.{low_sum}
 use Rattle.rv64_alu.specs.Immediates.{immediate}
 use Rattle.rv64_alu.specs.Table.{computed}
 use Rattle.rv64_instructions.specs.declared.csr.Csr.{Csr}
@@ -36,7 +36,7 @@ puts rd n is_known s = behind (put s rd (record { value = n; is_known = is_known
 
 -- the address that a register's value and an offset make
 abbrev pub address : State → (base offset : ℕ) → ℕ
-address s base offset = added w64 (value_in s base) offset
+address s base offset = low_sum w64 (value_in s base) offset
 
 -- a branch, which ends a guest if it leads to itself
 abbrev pub branches : Comparison → (rs1 rs2 to : ℕ) → State → Turn
@@ -46,7 +46,7 @@ branches when rs1 rs2 to s =
 
 -- a jump that links, which ends a guest if it leads to itself
 abbrev pub jumps : State → (register to : ℕ) → Turn
-jumps s rd to = if to == s.pc then Ends else Steps (goes_to (put s rd (known (added w64 s.pc 4))) to)
+jumps s rd to = if to == s.pc then Ends else Steps (goes_to (put s rd (known (low_sum w64 s.pc 4))) to)
 
 -- a CSR instruction: a read alone, or a write to a CSR that the board doesn't have, is local
 abbrev pub csr_turn : Spaces → CsrHow → Csr → (register : ℕ) → CsrSource → State → Turn

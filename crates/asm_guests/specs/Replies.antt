@@ -3,7 +3,6 @@ use Rattle.std.specs.Prelude.{ℕ, ◌-◌, ◌%◌, Bool, true, false, if◌the
 use Rattle.std.specs.Int.{cast_unsigned, w64}
 use Rattle.sbi_abi.specs.declared.answer.Sbiret.{Sbiret}
 use Rattle.sv39.specs.Causes.{cause_number}
-use Rattle.sv39.specs.declared.cause.Cause.{Cause}
 use Rattle.sv39.specs.declared.paging.Spaces.{Spaces}
 use Rattle.board_terms.specs.declared.reply.Reply.{Reply}
 use Rattle.board_terms.specs.declared.reply.Reply.TheVariants as replies
@@ -61,10 +60,6 @@ trap_by (Some stvec) cause value s =
     let later = at_handler (record s { csrs = trapped_csrs cause value s.pc s.csrs }) stvec in
     if s.csrs.interrupts then Traps later else GoesOn later
 
--- a fault of an access to an address goes to the handler
-abbrev pub traps : Cause → (at : ℕ) → State → Behind
-traps cause at s = trap_by s.csrs.stvec (cause_number cause) at s
-
 -- the state when the operation that clears SIE of a trap is done
 abbrev pub trap_taken : State → State
 trap_taken s = record s { csrs = record s.csrs { interrupts = false } }
@@ -85,15 +80,25 @@ call_by s (replies.Ret ret) = GoesOn (returned (cast_unsigned w64 ret.error) ret
 call_by s replies.Waiting = GoesOn (returned 0 0 s)
 call_by s reply = Leaves
 
--- A load takes its part of the word; a fault of an access goes to the handler; any other reply changes nothing.
-abbrev pub access_by : Instruction → State → Reply → Behind
-access_by (does.Load kind rd rs1 offset) s (replies.Value word) =
+-- The value that was read goes into a register: of a load its part of the word.
+abbrev pub value_by : Instruction → State → (word : ℕ) → Behind
+value_by (does.Load kind rd rs1 offset) s word =
     GoesOn (puts rd (loaded kind (address s rs1 (immediate offset)) word) true s)
-access_by (does.Fetch rd rs1 offset) s (replies.Value word) = GoesOn (puts rd word true s)
-access_by (does.ReadSip rd) s (replies.Value word) = GoesOn (puts rd word true s)
-access_by (does.Load kind rd rs1 offset) s (replies.Fault cause) = traps cause (address s rs1 (immediate offset)) s
-access_by (does.StoreDouble rs2 rs1 offset) s (replies.Fault cause) = traps cause (address s rs1 (immediate offset)) s
-access_by (does.Fetch rd rs1 offset) s (replies.Fault cause) = traps cause (address s rs1 (immediate offset)) s
+value_by (does.Fetch rd rs1 offset) s word = GoesOn (puts rd word true s)
+value_by (does.ReadSip rd) s word = GoesOn (puts rd word true s)
+value_by instruction s word = GoesOn (behind s)
+
+-- A fault of an access is a trap with its address.
+abbrev pub fault_by : Instruction → State → (cause : ℕ) → Behind
+fault_by (does.Load kind rd rs1 offset) s cause = trap_by s.csrs.stvec cause (address s rs1 (immediate offset)) s
+fault_by (does.StoreDouble rs2 rs1 offset) s cause = trap_by s.csrs.stvec cause (address s rs1 (immediate offset)) s
+fault_by (does.Fetch rd rs1 offset) s cause = trap_by s.csrs.stvec cause (address s rs1 (immediate offset)) s
+fault_by instruction s cause = GoesOn (behind s)
+
+-- The reply to an access, or to another operation, of which nothing is kept.
+abbrev pub access_by : Instruction → State → Reply → Behind
+access_by instruction s (replies.Value word) = value_by instruction s word
+access_by instruction s (replies.Fault cause) = fault_by instruction s (cause_number cause)
 access_by instruction s reply = GoesOn (behind s)
 
 -- What a reply makes of a guest that did the operation of its instruction.

@@ -1,7 +1,7 @@
 -- The state of a guest of instructions (unprivileged ISA 20191213, 2.1; Privileged 4.1; that a register can be unknown: profile).
 use Rattle.std.specs.Prelude.{ℕ, Bool, true, false, ◌==◌, if◌then◌else◌, None, get_or, replicate, slice_set}
 use Rattle.std.specs.Int.{w64}
-use Rattle.rv64_alu.specs.Functions.{added}
+use Rattle.rv64_alu.specs.Functions.{low_sum}
 use Rattle.asm_guests.specs.declared.csrs.Csrs.{Csrs}
 use Rattle.asm_guests.specs.declared.state.Content.{Content}
 use Rattle.asm_guests.specs.declared.state.State.{State}
@@ -36,7 +36,7 @@ goes_to s pc = record s { pc = pc }
 
 -- behind the instruction; each has 4 bytes
 abbrev pub behind : State → State
-behind s = goes_to s (added w64 s.pc 4)
+behind s = goes_to s (low_sum w64 s.pc 4)
 
 -- ---- entries
 

@@ -87,7 +87,7 @@ pub fn after<C: Code>(code: &C, guest: Guest, reply: Reply) -> Guest
     match guest {
         Guest::Before(instruction, state) => {
             let mut state = state;
-            match take(&mut state, instruction, reply, code.spaces()) {
+            match take(&mut state, &instruction, reply, code.spaces()) {
                 Came::GoesOn => settle(code, state, MOST_STEPS),
                 Came::Traps => Guest::Trapping(state),
                 Came::Leaves => Guest::Through,
@@ -108,7 +108,7 @@ pub fn next_op(guest: &Guest) -> Option<Op>
     ensures { result ≡ next_by guest.now }
 {
     match guest {
-        Guest::Before(instruction, state) => op_by(*instruction, state),
+        Guest::Before(instruction, state) => op_by(instruction, state),
         Guest::Trapping(_) => Some(Op::WriteSstatusSie(false)),
         _ => None,
     }
@@ -125,7 +125,7 @@ fn settle<C: Code>(code: &C, from: State, most: u32) -> Guest
         let Some(instruction) = code.instruction_at(state.pc) else {
             return stopped(code, state.pc);
         };
-        match step(&mut state, instruction, code.spaces()) {
+        match step(&mut state, &instruction, code.spaces()) {
             Did::Stepped => {}
             Did::Waits => return Guest::Before(instruction, state),
             Did::Ended => return Guest::Through,

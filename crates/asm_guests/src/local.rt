@@ -25,16 +25,16 @@ pub(crate) enum Did {
 }
 
 /// Does an instruction, if it is local.
-pub(crate) fn step(state: &mut State, instruction: Instruction, spaces: Spaces) -> Did
+pub(crate) fn step(state: &mut State, instruction: &Instruction, spaces: Spaces) -> Did
     requires { spaces.asid_len ≤ ASID_BITS }
-    ensures { did result state.new ≡ turn_by spaces instruction state.old }
+    ensures { did result state.new ≡ turn_by spaces instruction.now state.old }
 {
     match instruction {
         Instruction::Compute { op, rd, rs1, rs2 } => {
-            let first = state.content(rs1);
-            let second = state.content(rs2);
+            let first = state.content(*rs1);
+            let second = state.content(*rs2);
             let value = op.of(first.value, second.value);
-            put(state, rd, value, first.is_known && second.is_known)
+            put(state, *rd, value, first.is_known && second.is_known)
         }
         Instruction::ComputeImmediate {
             op,
@@ -42,18 +42,18 @@ pub(crate) fn step(state: &mut State, instruction: Instruction, spaces: Spaces) 
             rs1,
             immediate: n,
         } => {
-            let first = state.content(rs1);
-            let value = op.of(first.value, immediate(n));
-            put(state, rd, value, first.is_known)
+            let first = state.content(*rs1);
+            let value = op.of(first.value, immediate(*n));
+            put(state, *rd, value, first.is_known)
         }
-        Instruction::Value { rd, value } => put(state, rd, value, true),
-        Instruction::Branch { when, rs1, rs2, to } => branch(state, when, rs1, rs2, to),
-        Instruction::Jump { rd, to } => jump(state, rd, to),
+        Instruction::Value { rd, value } => put(state, *rd, *value, true),
+        Instruction::Branch { when, rs1, rs2, to } => branch(state, *when, *rs1, *rs2, *to),
+        Instruction::Jump { rd, to } => jump(state, *rd, *to),
         Instruction::JumpRegister { rd, rs1, offset } => {
-            let target = address(state, rs1, offset);
-            jump(state, rd, target - target % 2)
+            let target = address(state, *rs1, *offset);
+            jump(state, *rd, target - target % 2)
         }
-        Instruction::Csr { how, csr, rd, from } => on_csr(state, how, csr, rd, from, spaces),
+        Instruction::Csr { how, csr, rd, from } => on_csr(state, *how, *csr, *rd, from, spaces),
         Instruction::ClearSip { from } => clear_sip(state, from),
         Instruction::Fence => pass(state),
         Instruction::Ebreak => Did::Ended,
@@ -117,11 +117,11 @@ fn on_csr(
     how: CsrHow,
     csr: Csr,
     rd: Register,
-    from: CsrSource,
+    from: &CsrSource,
     spaces: Spaces,
 ) -> Did
     requires { spaces.asid_len ≤ ASID_BITS }
-    ensures { did result state.new ≡ csr_turn spaces how csr rd from state.old }
+    ensures { did result state.new ≡ csr_turn spaces how csr rd from.now state.old }
 {
     if !writes_csr(how, from) {
         let old = state.csrs.value(csr);
@@ -140,11 +140,11 @@ pub(crate) fn write_csr(
     how: CsrHow,
     csr: Csr,
     rd: Register,
-    from: CsrSource,
+    from: &CsrSource,
     spaces: Spaces,
 )
     requires { spaces.asid_len ≤ ASID_BITS }
-    ensures { state.new ≡ csr_done spaces how csr rd from state.old }
+    ensures { state.new ≡ csr_done spaces how csr rd from.now state.old }
 {
     let old = state.csrs.value(csr);
     let value = written_value(how, old, state.operand(from));
@@ -154,8 +154,8 @@ pub(crate) fn write_csr(
 }
 
 /// A clearing of sip: nothing to do, unless SSIP's bit is in its operand.
-fn clear_sip(state: &mut State, from: CsrSource) -> Did
-    ensures { did result state.new ≡ sip_turn from state.old }
+fn clear_sip(state: &mut State, from: &CsrSource) -> Did
+    ensures { did result state.new ≡ sip_turn from.now state.old }
 {
     if has_bit(state.operand(from), 1) {
         return Did::Waits;

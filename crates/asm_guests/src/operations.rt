@@ -10,8 +10,8 @@ use rv64_instructions::{Csr, Instruction, Register};
 use sbi_abi::Regs;
 
 /// The operation of an instruction, if it isn't local.
-pub(crate) fn op_by(instruction: Instruction, state: &State) -> Option<Op>
-    ensures { result ≡ op_by instruction state.now }
+pub(crate) fn op_by(instruction: &Instruction, state: &State) -> Option<Op>
+    ensures { result ≡ op_by instruction.now state.now }
 {
     Some(match instruction {
         Instruction::Load {
@@ -19,20 +19,20 @@ pub(crate) fn op_by(instruction: Instruction, state: &State) -> Option<Op>
             rs1,
             offset,
             ..
-        } => { Op::Load(word_around(kind.size(), address(state, rs1, offset))) }
+        } => { Op::Load(word_around(kind.size(), address(state, *rs1, *offset))) }
         Instruction::StoreDouble { rs2, rs1, offset } => {
-            Op::Store(address(state, rs1, offset), state.value(rs2))
+            Op::Store(address(state, *rs1, *offset), state.value(*rs2))
         }
-        Instruction::Fetch { rs1, offset, .. } => Op::Fetch(address(state, rs1, offset)),
+        Instruction::Fetch { rs1, offset, .. } => Op::Fetch(address(state, *rs1, *offset)),
         Instruction::Csr { how, csr, from, .. } => {
-            let value = written_value(how, state.csrs.value(csr), state.operand(from));
-            return csr_op(csr, value);
+            let value = written_value(*how, state.csrs.value(*csr), state.operand(from));
+            return csr_op(*csr, value);
         }
         Instruction::ReadSip { .. } => Op::ReadSip,
         Instruction::ClearSip { .. } => Op::ClearSsip,
         Instruction::FenceI => Op::FenceI,
         Instruction::SfenceVma { rs1, rs2 } => {
-            Op::Sfence(unless_zero(state, rs1), unless_zero(state, rs2))
+            Op::Sfence(unless_zero(state, *rs1), unless_zero(state, *rs2))
         }
         Instruction::Wfi => Op::Wfi,
         Instruction::Ecall => Op::Ecall(call_registers(state)),
@@ -74,7 +74,7 @@ fn unless_zero(state: &State, register: Register) -> Option<u64>
     if register.number() == 0 {
         return None;
     }
-    Some(state.value(register))
+    Some(state.content_at(register.number()).value)
 }
 
 /// The write of a CSR that the board has.

@@ -1,9 +1,10 @@
 //! What the reply to an operation makes of a guest.
 ghost use Rattle.std.specs.Prelude.{◌≡◌, ◌≤◌, true};
 ghost use Rattle.sv39.specs.declared.paging.TheConstants.{ASID_BITS};
-ghost use Rattle.asm_guests.specs.Replies.{access_by, behind_by, call_by, came, returned, sret, trap_by, trap_taken};
+ghost use Rattle.rv64_alu.specs.Immediates.{immediate};
+ghost use Rattle.asm_guests.specs.Replies.{access_by, behind_by, call_by, came, fault_by, returned, sret, trap_by, trap_taken, value_by};
 ghost use Rattle.asm_guests.specs.Replies.Behind.{GoesOn};
-ghost use Rattle.asm_guests.specs.Local.{puts};
+ghost use Rattle.asm_guests.specs.Local.{address, puts};
 ghost use Rattle.asm_guests.specs.States.{behind};
 
 use crate::guest::Lost;
@@ -29,17 +30,17 @@ pub(crate) enum Came {
 /// Takes the reply to the operation of an instruction.
 pub(crate) fn take(
     state: &mut State,
-    instruction: Instruction,
+    instruction: &Instruction,
     reply: Reply,
     spaces: Spaces,
 ) -> Came
     requires { spaces.asid_len ≤ ASID_BITS }
-    ensures { came result state.new ≡ behind_by spaces instruction state.old reply }
+    ensures { came result state.new ≡ behind_by spaces instruction.now state.old reply }
 {
     match instruction {
         Instruction::Ecall => take_return(state, reply),
         Instruction::Csr { how, csr, rd, from } => {
-            write_csr(state, how, csr, rd, from, spaces);
+            write_csr(state, *how, *csr, *rd, from, spaces);
             Came::GoesOn
         }
         Instruction::Sret => sret(state),
@@ -69,39 +70,62 @@ fn returns(state: &mut State, error: u64, value: u64) -> Came
 }
 
 /// Takes the reply to an access, or to another operation.
-fn take_access(state: &mut State, instruction: Instruction, reply: Reply) -> Came
-    ensures { came result state.new ≡ access_by instruction state.old reply }
+fn take_access(state: &mut State, instruction: &Instruction, reply: Reply) -> Came
+    ensures { came result state.new ≡ access_by instruction.now state.old reply }
 {
-    match (instruction, reply) {
-        (
-            Instruction::Load {
-                kind,
-                rd,
-                rs1,
-                offset,
-            },
-            Reply::Value(word),
-        ) => {
-            let value = kind.of(address(state, rs1, offset), word);
-            put(state, rd, value)
-        }
-        (Instruction::Fetch { rd, .. } | Instruction::ReadSip { rd }, Reply::Value(word)) => {
-            put(state, rd, word)
-        }
-        (
-            Instruction::Load { rs1, offset, .. }
-            | Instruction::StoreDouble { rs1, offset, .. }
-            | Instruction::Fetch { rs1, offset, .. },
-            Reply::Fault(cause),
-        ) => {
-            let at = address(state, rs1, offset);
-            trap(state, cause.number(), at)
-        }
-        _ => {
-            state.pass();
-            Came::GoesOn
-        }
+    match reply {
+        Reply::Value(word) => take_value(state, instruction, word),
+        Reply::Fault(cause) => take_fault(state, instruction, cause.number()),
+        _ => pass(state),
     }
+}
+
+/// Takes the value that was read.
+fn take_value(state: &mut State, instruction: &Instruction, word: u64) -> Came
+    ensures { came result state.new ≡ value_by instruction.now state.old word }
+{
+    match instruction {
+        Instruction::Load {
+            kind,
+            rd,
+            rs1,
+            offset,
+        } => {
+            let value = kind.of(address(state, *rs1, *offset), word);
+            put(state, *rd, value)
+        }
+        Instruction::Fetch { rd, .. } => put(state, *rd, word),
+        Instruction::ReadSip { rd } => put(state, *rd, word),
+        _ => pass(state),
+    }
+}
+
+/// Takes a fault with this number: a trap.
+fn take_fault(state: &mut State, instruction: &Instruction, cause: u64) -> Came
+    ensures { came result state.new ≡ fault_by instruction.now state.old cause }
+{
+    match instruction {
+        Instruction::Load { rs1, offset, .. } => fault_at(state, cause, *rs1, *offset),
+        Instruction::StoreDouble { rs1, offset, .. } => fault_at(state, cause, *rs1, *offset),
+        Instruction::Fetch { rs1, offset, .. } => fault_at(state, cause, *rs1, *offset),
+        _ => pass(state),
+    }
+}
+
+/// A trap for a fault of an access to this address.
+fn fault_at(state: &mut State, cause: u64, base: Register, offset: i32) -> Came
+    ensures { came result state.new ≡ trap_by state.old.csrs.stvec cause (address state.old base (immediate offset)) state.old }
+{
+    let at = address(state, base, offset);
+    trap(state, cause, at)
+}
+
+/// Goes on behind the instruction.
+fn pass(state: &mut State) -> Came
+    ensures { came result state.new ≡ GoesOn (behind state.old) }
+{
+    state.pass();
+    Came::GoesOn
 }
 
 /// Writes a register, and goes on.

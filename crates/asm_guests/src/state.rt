@@ -106,19 +106,19 @@ impl State {
     }
 
     /// The value of a CSR instruction's operand (unprivileged ISA 9.1).
-    pub(crate) fn operand(&self, from: CsrSource) -> u64
-        ensures { result ≡ operand from self.now }
+    pub(crate) fn operand(&self, from: &CsrSource) -> u64
+        ensures { result ≡ operand from.now self.now }
     {
         match from {
-            CsrSource::Register(register) => self.value(register),
-            CsrSource::Immediate(n) => u64::from(n),
+            CsrSource::Register(register) => self.value(*register),
+            CsrSource::Immediate(n) => u64::from(*n),
         }
     }
 }
 
 /// Whether a CSR instruction writes (unprivileged ISA 9.1).
-pub(crate) fn writes_csr(how: CsrHow, from: CsrSource) -> bool
-    ensures { result ≡ writes_csr how from }
+pub(crate) fn writes_csr(how: CsrHow, from: &CsrSource) -> bool
+    ensures { result ≡ writes_csr how from.now }
 {
     match how {
         CsrHow::Write => true,
@@ -127,11 +127,11 @@ pub(crate) fn writes_csr(how: CsrHow, from: CsrSource) -> bool
 }
 
 /// Whether a CSR instruction's operand is x0, or the immediate 0.
-fn is_none(from: CsrSource) -> bool
-    ensures { result ≡ is_none from }
+fn is_none(from: &CsrSource) -> bool
+    ensures { result ≡ is_none from.now }
 {
     match from {
         CsrSource::Register(register) => register.number() == 0,
-        CsrSource::Immediate(n) => n == 0,
+        CsrSource::Immediate(n) => *n == 0,
     }
 }
