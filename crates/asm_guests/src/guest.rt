@@ -121,7 +121,7 @@ fn settle<C: Code>(code: &C, from: State, most: u32) -> Guest
 {
     let mut state = from;
     let mut left = most;
-    while left > 0 {
+    'steps: while left > 0 {
         let Some(instruction) = code.instruction_at(state.pc) else {
             return stopped(code, state.pc);
         };
