@@ -5,7 +5,7 @@ use Rattle.asm_tokens.specs.declared.bytes.ByteClass.{ByteClass}
 use Rattle.asm_tokens.specs.declared.bytes.ByteClass.TheVariants.{Blank, Letter, End, Hash, Quote, Slash, Mark, Other}
 use Rattle.asm_tokens.specs.Bytes.{class_of}
 use Rattle.asm_tokens.specs.Runs.{behind_comment, closing_quote}
-use Rattle.asm_tokens.specs.Tokens.{Reading, comment_by, first, reading_by, slash_of, string_by}
+use Rattle.asm_tokens.specs.Tokens.{comment_by, first, reading_by, slash_of, string_by}
 use Rattle.asm_tokens.specs.Tokens.Reading.{Over}
 
 string_some : (place : Option ℕ) (after : List ℕ) → Over ≡ string_by place after → ⊥

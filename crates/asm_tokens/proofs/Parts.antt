@@ -1,10 +1,9 @@
 -- Parts of a text, one after another: one more at the end, and that there is one way to read a text.
 use Rattle.std.proofs.Common.{◌≡◌, ◌⊎◌, ℕ, List, [], ◌∷◌, ◌++◌, length, refl, sym, ap, ◌∙◌, subst, inl, inr}
 use Rattle.asm_tokens.specs.declared.tokens.BadText.{BadText}
-use Rattle.asm_tokens.specs.declared.reader.TokenFault.{TokenFault}
-use Rattle.asm_tokens.specs.Tokens.{Lexeme, Reading, first}
+use Rattle.asm_tokens.specs.Tokens.{Lexeme, first}
 use Rattle.asm_tokens.specs.Tokens.Reading.{Begins, Gap, Faulty, Over}
-use Rattle.asm_tokens.specs.Readings.{AreTokens, HasOneRow, IsFault, TextPart, ReadsTo, TokenSpot, taken}
+use Rattle.asm_tokens.specs.Readings.{HasOneRow, TextPart, ReadsTo, TokenSpot, taken}
 use Rattle.asm_tokens.specs.Readings.TextPart.{Passed, Took}
 
 -- ---- one more part

@@ -1,5 +1,5 @@
 -- Worked tokens, names of registers and numbers, computed from the definitions.
-use Rattle.std.proofs.Common.{◌≡◌, List, [], ◌∷◌, codes, Some, None, true, false, refl}
+use Rattle.std.proofs.Common.{◌≡◌, [], ◌∷◌, codes, Some, None, true, false, refl}
 use Rattle.asm_tokens.specs.declared.marks.Mark.TheVariants.{Comma, Slash}
 use Rattle.asm_tokens.specs.declared.tokens.BadText.TheVariants.{BadByte, OpenComment, OpenString}
 use Rattle.line_words.specs.Values.{digit_after}

@@ -1,10 +1,10 @@
 -- The tokens of a text, and its first fault.
-use Rattle.std.specs.Prelude.{◌≡◌, ℕ, List, [], ◌∷◌, length, map}
+use Rattle.std.specs.Prelude.{◌≡◌, ℕ, List, [], ◌∷◌, length}
 use Rattle.asm_tokens.specs.declared.reader.TokenFault.{TokenFault}
 use Rattle.asm_tokens.specs.declared.reader.Placed.{Placed}
 use Rattle.asm_tokens.specs.declared.reader.TokensFault.{TokensFault}
 use Rattle.asm_tokens.specs.declared.reader.TokensFault.TheVariants.{Wrong, NoMemory}
-use Rattle.asm_tokens.specs.Tokens.{Lexeme, Reading, first, lexeme_of}
+use Rattle.asm_tokens.specs.Tokens.{Lexeme, first, lexeme_of}
 use Rattle.asm_tokens.specs.Tokens.Reading.{Begins, Gap, Faulty}
 
 -- a token, and the number of bytes from it to the end of the text

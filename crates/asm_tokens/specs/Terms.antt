@@ -1,5 +1,5 @@
 -- Sums of numbers and names (GNU as, Expressions, Local Labels). Products, shifts and parentheses aren't read here.
-use Rattle.std.specs.Prelude.{ℕ, Bool, true, false, not, ◌&&◌, ◌||◌, ◌==◌, if◌then◌else◌, List, [], ◌∷◌, Option, Some, None, option_map}
+use Rattle.std.specs.Prelude.{ℕ, Bool, true, false, not, ◌&&◌, ◌||◌, ◌==◌, if◌then◌else◌, List, [], ◌∷◌, Option, Some, None}
 use Rattle.std.specs.Int.{is_in_range}
 use Rattle.asm_tokens.specs.declared.marks.Mark.TheVariants.{Plus, Minus}
 use Rattle.asm_tokens.specs.declared.reader.Placed.{Placed}

@@ -1,6 +1,6 @@
 use Rattle.std.proofs.Common.{◌≡◌, List, [], ◌∷◌, ◌++◌, length, map, refl, sym, ap, ◌∙◌}
 use Rattle.std.proofs.lemmas.List.{map-append}
-use Rattle.asm_tokens.specs.Readings.{TokenSpot, token_spot, taken}
+use Rattle.asm_tokens.specs.Readings.{TokenSpot, token_spot}
 use Rattle.asm_tokens.specs.Readings.TextPart.{Passed, Took}
 use Rattle.asm_tokens.specs.Tokens.{lexeme_of}
 use Rattle.asm_tokens.proofs.Parts.{passed_more, taken-passed, taken-took, took_more}
