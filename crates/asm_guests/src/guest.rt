@@ -115,6 +115,7 @@ pub fn next_op(guest: &Guest) -> Option<Op>
 }
 
 /// The guest from a state on, after its local steps, of which it may do so many.
+#[tactic(auto, using(crate::proofs::Settling::settled_more))]
 fn settle<C: Code>(code: &C, from: State, most: u32) -> Guest
     ensures { result ≡ settled
         (record { instruction = C.instructions code.now; is_end = C.ends code.now; spaces = C.widths code.now }) most from }

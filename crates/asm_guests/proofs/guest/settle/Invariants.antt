@@ -9,7 +9,7 @@ invariant-steps g l =
       is_end = g.C.Code.ends l.code;
       spaces = g.C.Code.widths l.code;
     } in
-    settled code l.left l.state ≡ settled code l.most l.from
+    settled code l.left l.state ≡ settled code l.most l.fn.from
 
 abbrev pub decreases-steps : goal.decreases-steps
 decreases-steps g l = l.left
