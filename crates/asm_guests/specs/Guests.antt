@@ -29,10 +29,10 @@ most_steps = 100000
 
 -- ---- local steps are done at once
 
-abbrev pub turned : Turn → Instruction → State → (later : State → Guest) → Guest
-turned (Steps next) instruction s later = later next
-turned Waits instruction s later = Before instruction s
-turned Ends instruction s later = Through
+abbrev pub turned : Turn → Instruction → (later : State → Guest) → Guest
+turned (Steps s) instruction later = later s
+turned (Waits s) instruction later = Before instruction s
+turned Ends instruction later = Through
 
 -- without an instruction a guest is through at the end of a section, and lost anywhere else
 abbrev pub stopped : (is_end : Bool) → Guest
@@ -40,7 +40,7 @@ stopped is_end = if is_end then Through else Astray NoInstruction
 
 abbrev pub fetched : Code → Option Instruction → State → (later : State → Guest) → Guest
 fetched code None s later = stopped (code.is_end s.pc)
-fetched code (Some instruction) s later = turned (turn_by code.spaces instruction s) instruction s later
+fetched code (Some instruction) s later = turned (turn_by code.spaces instruction s) instruction later
 
 -- The guest from a state on, if it does at most n local steps before an operation or its end.
 abbrev pub settled : Code → (n : ℕ) → State → Guest

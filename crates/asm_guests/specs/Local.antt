@@ -21,13 +21,13 @@ use Rattle.asm_guests.specs.States.{behind, goes_to, known, knows, put, value_in
 -- what an instruction is for its guest: a local step, an operation of the board, or the guest's end
 pub data Turn : Type 0 where
   Steps : State → Turn
-  Waits : Turn
+  Waits : State → Turn
   Ends : Turn
 
 -- the turn of an instruction that was done so far, with the state behind it
 abbrev pub did : Did → State → Turn
 did Stepped s = Steps s
-did Waited s = Waits
+did Waited s = Waits s
 did Ended s = Ends
 
 -- the state behind an instruction that writes a register; the value is known if what it comes from is
@@ -51,12 +51,12 @@ jumps s rd to = if to == s.pc then Ends else Steps (goes_to (put s rd (known (lo
 -- a CSR instruction: a read alone, or a write to a CSR that the board doesn't have, is local
 abbrev pub csr_turn : Spaces → CsrHow → Csr → (register : ℕ) → CsrSource → State → Turn
 csr_turn spaces how csr rd from s =
-    if writes_csr how from then (if is_board_csr csr then Waits else Steps (csr_done spaces how csr rd from s))
+    if writes_csr how from then (if is_board_csr csr then Waits s else Steps (csr_done spaces how csr rd from s))
     else Steps (puts rd (csr_value csr s.csrs) true s)
 
 -- a clearing of sip: an operation if its operand has SSIP's bit, 1 (Privileged 4.1.3)
 abbrev pub sip_turn : CsrSource → State → Turn
-sip_turn from s = if has_bit (operand from s) 1 then Waits else Steps (behind s)
+sip_turn from s = if has_bit (operand from s) 1 then Waits s else Steps (behind s)
 
 -- JALR: its target has bit 0 cleared, and its base is read before it links (unprivileged ISA 2.5)
 abbrev pub target : State → (base offset : ℕ) → ℕ
@@ -76,4 +76,4 @@ turn_by spaces (OnCsr how csr rd from) s = csr_turn spaces how csr rd from s
 turn_by spaces (ClearSip from) s = sip_turn from s
 turn_by spaces Fence s = Steps (behind s)
 turn_by spaces Ebreak s = Ends
-turn_by spaces instruction s = Waits
+turn_by spaces instruction s = Waits s
