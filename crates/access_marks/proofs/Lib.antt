@@ -1,0 +1,4 @@
+pub mod Changing
+pub mod Wording
+pub mod Recording
+pub mod Marking

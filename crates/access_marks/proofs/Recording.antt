@@ -1,0 +1,60 @@
+-- The places of a record, and what is there at each.
+use Rattle.std.proofs.Common.{◌≡◌, ℕ, ◌+◌, ◌<◌, List, [], ◌∷◌, ◌++◌, length, take, drop, reverse, get_or, refl, sym, ap, subst, ◌∙◌, Result, Ok}
+use Rattle.std.specs.List.{All}
+use Rattle.std.proofs.lemmas.List.{reverse-append, reverse-reverse, take-append-drop, take_more}
+use Rattle.std.proofs.lemmas.List.Elements.{All-cons, All-head, All-nil, All-push, All-same, All-tail}
+use mathlib.Core.List.{reverse-cons}
+use Rattle.board_terms.specs.declared.op.Actor.{Actor}
+use Rattle.board_terms.specs.declared.op.Actor.TheVariants.{Hart, Clock}
+use Rattle.board_terms.specs.declared.op.Op.{Op}
+use Rattle.board_terms.specs.declared.reply.Reply.{Reply}
+use Rattle.board_core.specs.History.{Event}
+use Rattle.board_core.specs.Opening.{Opening}
+use Rattle.board_core.specs.Replies.{IsLegal, answer}
+use Rattle.board_rules.proofs.InCalls.{taken}
+use Rattle.board_laws.proofs.Places.{legal-older}
+use Rattle.access_marks.specs.Inside.Accessed.{IsPresent}
+use Rattle.access_marks.specs.Inside.Following.{IsNext}
+
+-- ---- lists
+
+-- the first elements of a list, with one more, from the last on
+pub one-more : {A : Type 0} (xs : List A) (i : ℕ) (x : A) → i < length xs → x ≡ get_or xs i x → reverse (take (i + 1) xs) ≡ x ∷ reverse (take i xs)
+one-more xs i x inside is =
+    ap reverse (take_more xs i x inside) ∙ reverse-append (take i xs) (get_or xs i x ∷ []) ∙ ap (λ y. y ∷ reverse (take i xs)) (sym is)
+
+all-reversed : {A : Type 0} (P : A → Type 0) (xs : List A) → All P xs → All P (reverse xs)
+all-reversed P [] all = All-nil P
+all-reversed P (x ∷ xs) all =
+    All-same P (reverse (x ∷ xs)) (reverse xs ++ x ∷ []) (reverse-cons x xs) (All-push P (reverse xs) x (all-reversed P xs (All-tail P x xs all)) (All-head P x xs all))
+
+pub all-turned : {A : Type 0} (P : A → Type 0) (xs : List A) → All P (reverse xs) → All P xs
+all-turned P xs all = All-same P xs (reverse (reverse xs)) (sym (reverse-reverse xs)) (all-reversed P (reverse xs) all)
+
+-- ---- a legal record
+
+present-by : (o : Opening) (past : List Event) (actor : Actor) (op : Op) (r : Reply) → answer o past actor op ≡ Ok r → IsPresent o.config.harts actor
+present-by o past (Hart h) op r answered = (taken o past h op r answered).inside
+present-by o past Clock op r answered = tt
+
+present-past : (o : Opening) (past : List Event) → IsLegal o past → All (λ (e : Event). IsPresent o.config.harts e.actor) past
+present-past o [] legal = All-nil (λ (e : Event). IsPresent o.config.harts e.actor)
+present-past o (event ∷ past) legal =
+    All-cons (λ (e : Event). IsPresent o.config.harts e.actor) event past (present-by o past event.actor event.op event.reply legal.0) (present-past o past legal.2)
+
+-- each of its actors is there
+pub all-present : (o : Opening) (events : List Event) → IsLegal o (reverse events) → All (λ (e : Event). IsPresent o.config.harts e.actor) events
+all-present o events legal = all-turned (λ (e : Event). IsPresent o.config.harts e.actor) events (present-past o (reverse events) legal)
+
+-- so is what was there up to each of its places
+pub legal-at : (o : Opening) (events : List Event) (i : ℕ) (event : Event) → i < length events → event ≡ get_or events i event → IsLegal o (reverse events) → IsLegal o (event ∷ reverse (take i events))
+legal-at o events i event inside is legal =
+    subst (IsLegal o) (one-more events i event inside is)
+    (legal-older o (reverse (drop (i + 1) events)) (reverse (take (i + 1) events))
+    (subst (IsLegal o) (ap reverse (sym (take-append-drop (i + 1) events)) ∙ reverse-append (take (i + 1) events) (drop (i + 1) events)) legal))
+
+pub next-of : (o : Opening) (past : List Event) (event : Event) → IsLegal o (event ∷ past) → IsNext o past event
+next-of o past event legal = record { answered = legal.0; uses = legal.1 }
+
+pub legal-next : (o : Opening) (past : List Event) (event : Event) → IsLegal o past → IsNext o past event → IsLegal o (event ∷ past)
+legal-next o past event legal next = (next.answered, next.uses, legal)

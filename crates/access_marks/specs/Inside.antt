@@ -1,0 +1,5 @@
+-- Private: what no clause of a public call names.
+pub mod Accessed
+pub mod Changes
+pub mod Following
+pub mod Words
