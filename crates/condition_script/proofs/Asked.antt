@@ -9,10 +9,11 @@ use Rattle.std.proofs.lemmas.Option.{get_or_from_slice_get, slice_get-get_or}
 use Rattle.std.specs.List.{AllZip}
 use Rattle.condition_script.specs.declared.items.Item.{Item}
 use Rattle.condition_script.specs.declared.words.Word.{Word}
-use Rattle.condition_script.specs.Grammar.{ArePatterns, RuleValue, IsRuleOf, IsAsked, IsPattern, Wanted, rule_value, keyword_named, keyword_word, with_commas, AreNumberWords, AsksActor, AsksName, AsksNumber, IsNameAndNumbers, IsNameOf, IsOperation, IsStepPattern, behind, has_mark, is_mark, up_to}
+use Rattle.condition_script.specs.declared.marks.Mark.{Mark}
+use Rattle.condition_script.specs.Grammar.{ArePatterns, mark_name, RuleValue, IsRuleOf, IsAsked, IsPattern, Wanted, rule_value, keyword_named, keyword_word, with_commas, AreNumberWords, AsksActor, AsksName, AsksNumber, IsNameAndNumbers, IsNameOf, IsOperation, IsStepPattern, behind, has_mark, is_mark, up_to}
 use Rattle.condition_script.specs.declared.faults.Wrong.{Wrong}
 use Rattle.condition_script.specs.Inside.Reading.{Gives, Puts, texts}
-use Rattle.condition_script.proofs.OneReading.{name_one}
+use Rattle.condition_script.proofs.OneReading.{name_one, no_after}
 use Rattle.condition_script.proofs.Named.{keyword_own, none_named, one_named}
 use Rattle.condition_script.specs.declared.keywords.Keyword.{Keyword}
 use Rattle.condition_script.specs.declared.keywords.Keyword.TheVariants as keywords
@@ -186,7 +187,14 @@ no_two mark words front back is_front is_back none p q two =
 pub no_never : (words front back : List (List ℕ)) → has_mark (codes "after") words ≡ true → front ≡ up_to (codes "after") words → back ≡ behind (codes "after") words
     → ((ps : Wanted × Wanted) → IsPattern front ps.0 × IsPattern back ps.1 → ⊥) → (a : RuleValue) → IsRuleOf keywords.Never words a → ⊥
 no_never words front back marked is_front is_back none a (inl x) = let e = sym x.2 ∙ marked in absurd cc
-no_never words front back marked is_front is_back none a (inr x) = no_two (codes "after") words front back is_front is_back none x.0 x.1 x.3
+no_never words front back marked is_front is_back none a (inr (inl x)) = no_two (codes "after") words front back is_front is_back none x.0 x.1 x.3
+no_never words front back marked is_front is_back none a (inr (inr x)) = no_after x.0 words x.2 marked
+
+pub no_plain_never : (words : List (List ℕ)) → has_mark (codes "after") words ≡ false → ((mark : Mark) → words ≡ mark_name mark ∷ [] → ⊥) → ((p : Wanted) → IsPattern words p → ⊥)
+    → (a : RuleValue) → IsRuleOf keywords.Never words a → ⊥
+no_plain_never words unmarked other none a (inl x) = none x.0 x.3
+no_plain_never words unmarked other none a (inr (inl x)) = let e = sym x.3.0 ∙ unmarked in absurd cc
+no_plain_never words unmarked other none a (inr (inr x)) = other x.0 x.2
 
 pub no_before : (words commas front back : List (List ℕ)) → commas ≡ with_commas words → front ≡ up_to (codes ",") commas → back ≡ behind (codes ",") commas
     → ((ps : Wanted × Wanted) → IsPattern front ps.0 × IsPattern back ps.1 → ⊥) → (a : RuleValue) → IsRuleOf keywords.Before words a → ⊥
