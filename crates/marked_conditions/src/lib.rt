@@ -1,0 +1,12 @@
+//! Conditions that ask of marks, on records whose accesses have them (profile).
+#![tactic(auto)]
+
+mod laws;
+mod patterns;
+mod places;
+mod rules;
+
+pub use laws::marks_are_not_asked;
+pub use patterns::{matches_with, mark_of};
+pub use places::{asks_of_marks, failing_step_with};
+pub use rules::{first_with, holds_with};
