@@ -1,5 +1,5 @@
 //! The marks of a record.
-ghost use Rattle.std.specs.Prelude.{◌≡◌, IfOk, MatchOption, reverse};
+ghost use Rattle.std.specs.Prelude.{◌≡◌, IfOk, IfSome, MatchOption, length, reverse};
 ghost use Rattle.board_terms.specs.Limits.{IsGood};
 ghost use Rattle.board_core.specs.Opening.{opening_at};
 ghost use Rattle.board_core.specs.Replies.{IsLegal};
@@ -23,9 +23,10 @@ pub fn marks_of(
     events: &[Event],
 ) -> Result<Option<Vec<Marks>>, AllocError>
     requires { IsGood config.now }
-    ensures { IfOk result (λ found. MatchOption found (¬ IsLegal (opening_at config.now) (reverse events.now))
+    ensures marks { IfOk result (λ found. MatchOption found (¬ IsLegal (opening_at config.now) (reverse events.now))
         (λ marks. IsLegal (opening_at config.now) (reverse events.now)
         × AreMarked (opening_at config.now) (reverse events.now) (reverse marks.items))) }
+    ensures length { IfOk result (λ found. IfSome found (λ marks. length marks.items ≡ length events.now)) }
 {
     let Some(addresses) = accessed(alloc, config.harts, events)? else {
         return Ok(None);
