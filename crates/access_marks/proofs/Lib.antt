@@ -1,4 +1,6 @@
 pub mod Changing
 pub mod Wording
 pub mod Recording
+pub mod Accessing
+pub mod Following
 pub mod Marking
