@@ -17,9 +17,9 @@ use Rattle.conditions.specs.Rules.{IsNamedIn}
 -- ---- patterns
 
 -- whether an access has a mark
-abbrev pub has : Mark → Marks → Bool
-has Stale marks = marks.stale
-has Unsteady marks = marks.unsteady
+abbrev pub is_marked : Mark → Marks → Bool
+is_marked Stale marks = marks.stale
+is_marked Unsteady marks = marks.unsteady
 
 -- the mark that a word is
 abbrev pub mark_in : Option (Option Item) → Option Mark
@@ -33,7 +33,7 @@ mark_of p = mark_in (slice_get p.reply.items 0)
 -- The mark is the step's, or, without a mark, the reply fits.
 abbrev pub FitsMark : Option Mark → Pattern → Event → Marks → Type 0
 FitsMark None p e marks = FitsReply p e
-FitsMark (Some mark) p e marks = has mark marks ≡ true
+FitsMark (Some mark) p e marks = is_marked mark marks ≡ true
 
 -- The pattern matches a step with these marks.
 abbrev pub MatchesWith : Pattern → Event → Marks → Type 0
