@@ -182,7 +182,7 @@ module _ (o : Opening) (event : Event) (past : List Event) (written : Option Wri
       here : ends_words (effect_at o past event h) ≡ false → changed ≡ Some pa → (differs (with_effect effect more) h pa ≡ false) ↔ WatchedWordsAgree o (event ∷ past) h pa
       here kept is = (
         λ steady. let gone : true ≡ false =
-        sym (left h pa effect more (tells false kept) ∙ ap (λ (c : Option ℕ). differs (with_change c notes) h pa) is ∙ itself h pa notes) ∙ steady in cc,
+            sym (left h pa effect more (tells false kept) ∙ ap (λ (c : Option ℕ). differs (with_change c notes) h pa) is ∙ itself h pa notes) ∙ steady in cc,
         λ agree. absurd (disagree h pa kept written changed says changes is agree),
       )
 

@@ -83,9 +83,7 @@ fn phys_at(used: Option<Entry>, va: u64) -> u128
     ensures { result ≡ phys_at used va }
 {
     match used {
-        Some(entry) => {
-            u128::from(entry.pa()) + u128::from(va.saturating_sub(entry.page()))
-        }
+        Some(entry) => { u128::from(entry.pa()) + u128::from(va.saturating_sub(entry.page())) }
         None => u128::from(va),
     }
 }

@@ -301,9 +301,8 @@ fn can_do(actor: Item, op: OpName) -> bool
     match actor {
         Item::Word(Name::Clock) => op == OpName::Tick,
         Item::Number(_) => op != OpName::Tick,
-        Item::Word(Name::Op(_) | Name::Said(_) | Name::Mark(_))
-        | Item::Below(_)
-        | Item::Absent => false,
+        Item::Word(Name::Op(_) | Name::Said(_) | Name::Mark(_)) | Item::Below(_) | Item::Absent =>
+            false,
     }
 }
 

@@ -102,8 +102,8 @@ pub answers-keep : (p : Pattern) (events : List Event) (marks : List Marks) (n :
 answers-keep p events marks n e m is_e is_m fits before =
     let P : ℕ → Type 0 = λ k. (e : Event) (m : Marks) → slice_get events k ≡ Some e → slice_get marks k ≡ Some m → FitsStep p e → FitsMark (mark_of p) p e m in
     below_more P n before (λ x y at_x at_y.
-        subst (λ (x : Event). FitsStep p x → FitsMark (mark_of p) p x y) (sym (same-at events n x e at_x is_e))
-        (subst (λ (y : Marks). FitsStep p e → FitsMark (mark_of p) p e y) (sym (same-at marks n y m at_y is_m)) fits))
+    subst (λ (x : Event). FitsStep p x → FitsMark (mark_of p) p x y) (sym (same-at events n x e at_x is_e))
+    (subst (λ (y : Marks). FitsStep p e → FitsMark (mark_of p) p e y) (sym (same-at marks n y m at_y is_m)) fits))
 
 pub answers-whole : (p : Pattern) (events : List Event) (marks : List Marks) (n : ℕ) → length events ≤ n → AnswerBefore p events marks n → AnswersFit p events marks
 answers-whole p events marks n long before k e m at_e at_m =

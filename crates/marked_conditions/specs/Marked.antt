@@ -17,9 +17,9 @@ use Rattle.conditions.specs.Rules.{IsNamedIn}
 -- ---- patterns
 
 -- whether an access has a mark
-abbrev pub is_marked : Mark → Marks → Bool
-is_marked Stale marks = marks.stale
-is_marked Unsteady marks = marks.unsteady
+abbrev pub told_mark : Mark → Marks → Bool
+told_mark Stale marks = marks.stale
+told_mark Unsteady marks = marks.unsteady
 
 -- the mark that a word is
 abbrev pub mark_in : Option (Option Item) → Option Mark
@@ -33,7 +33,7 @@ mark_of p = mark_in (slice_get p.reply.items 0)
 -- The mark is the step's, or, without a mark, the reply fits.
 abbrev pub FitsMark : Option Mark → Pattern → Event → Marks → Type 0
 FitsMark None p e marks = FitsReply p e
-FitsMark (Some mark) p e marks = is_marked mark marks ≡ true
+FitsMark (Some mark) p e marks = told_mark mark marks ≡ true
 
 -- The pattern matches a step with these marks.
 abbrev pub MatchesWith : Pattern → Event → Marks → Type 0
@@ -74,10 +74,11 @@ HoldsWith (Before p q) events marks end = (j k : ℕ) → IsFirstPlace (IsAtWith
     → IsFirstPlace (IsAtWith q events marks) 0 k → j < k
 HoldsWith (CanEnd ends) events marks end = ⊥
 
--- whether a pattern, or a condition, asks of marks
+-- whether a pattern asks of marks
 abbrev pub asks : Pattern → Bool
 asks p = is_some (mark_of p)
 
+-- whether a condition asks of marks
 abbrev pub asks_of_marks : Rule → Bool
 asks_of_marks (Never p) = asks p
 asks_of_marks (NeverAfter p q) = asks p || asks q

@@ -7,6 +7,6 @@ mod places;
 mod rules;
 
 pub use laws::marks_are_not_asked;
-pub use patterns::{matches_with, mark_of};
+pub use patterns::{mark_of, matches_with};
 pub use places::{asks_of_marks, failing_step_with};
 pub use rules::{first_with, holds_with};

@@ -1,6 +1,6 @@
 //! Which steps a pattern matches, with their marks.
 ghost use Rattle.std.specs.Prelude.{◌↔◌, ◌≡◌, true};
-ghost use Rattle.marked_conditions.specs.Marked.{FitsMark, MatchesWith, is_marked, mark_of};
+ghost use Rattle.marked_conditions.specs.Marked.{FitsMark, MatchesWith, told_mark, mark_of};
 
 use access_marks::Marks;
 use board_core::Event;
@@ -18,7 +18,7 @@ pub(crate) fn fits_mark(p: &Pattern, event: &Event, marks: Marks) -> bool
     ensures { (result ≡ true) ↔ FitsMark (mark_of p.now) p.now event.now marks }
 {
     match mark_of(p) {
-        Some(mark) => is_marked(mark, marks),
+        Some(mark) => told_mark(mark, marks),
         None => fits_reply(p, event),
     }
 }
@@ -34,8 +34,8 @@ pub fn mark_of(p: &Pattern) -> Option<Mark>
 }
 
 /// Whether an access has a mark.
-fn is_marked(mark: Mark, marks: Marks) -> bool
-    ensures { result ≡ is_marked mark marks }
+fn told_mark(mark: Mark, marks: Marks) -> bool
+    ensures { result ≡ told_mark mark marks }
 {
     match mark {
         Mark::Stale => marks.stale,

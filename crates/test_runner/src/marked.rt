@@ -4,7 +4,9 @@ ghost use Rattle.board_terms.specs.Limits.{IsGood};
 
 use access_marks::{Marks, marks_of};
 use board_core::{Config, Event, Op};
-use conditions::{Condition, Pattern, Rule, first_misfit, first_misfit_with, fits_step, has_fitting};
+use conditions::{
+    Condition, Pattern, Rule, first_misfit, first_misfit_with, fits_step, has_fitting,
+};
 use marked_conditions::{asks_of_marks, failing_step_with, holds_with, mark_of};
 use outcome_statistics::{failing_step, is_met, meets};
 use std::alloc::{AllocError, Global};
@@ -26,7 +28,10 @@ pub(crate) fn marks_asked(
 ) -> Result<Option<Vec<Marks>>, AllocError>
     requires { IsGood config.now }
 {
-    if !conditions.iter().any(|condition| asks_of_marks(&condition.rule)) {
+    if !conditions
+        .iter()
+        .any(|condition| asks_of_marks(&condition.rule))
+    {
         return Ok(None);
     }
     match with_room(config, events.len() as u64) {
