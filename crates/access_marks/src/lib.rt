@@ -1,4 +1,4 @@
-//! The marks of a record's accesses: which of them are stale, and which depend on what a TLB or an instruction cache holds.
+//! The marks of a record's accesses: which are stale, and which aren't steady.
 #![tactic(auto)]
 
 mod accessed;

@@ -1,4 +1,4 @@
-//! Conditions that ask of marks, on records whose accesses have them (profile).
+//! Conditions that ask of marks (profile).
 #![tactic(auto)]
 
 mod laws;
