@@ -154,7 +154,7 @@ impl Followed {
     {
         match access {
             Access::Fetch => self.is_word_steady(at),
-            Access::Load | Access::Store(_) | Access::Amo(..) => true,
+            _ => true,
         }
     }
 

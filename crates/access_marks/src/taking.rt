@@ -13,12 +13,16 @@ pub(crate) fn takes(board: &mut Board, event: &Event) -> bool
 {
     let index = board.history().len();
     match board.step(event.actor(), event.op()) {
-        Ok(reply) => {
-            let used = board.history()[index].translation();
-            is_reply(reply, event.reply()) && is_use(used, event.translation())
-        }
+        Ok(reply) => is_event(reply, board.history()[index].translation(), event),
         Err(_) => false,
     }
+}
+
+/// Whether an event has this reply, and used this entry.
+fn is_event(reply: Reply, used: Option<Entry>, event: &Event) -> bool
+    ensures { (result ≡ true) ↔ ((reply ≡ event.now.reply) × (used ≡ event.now.translation)) }
+{
+    is_reply(reply, event.reply()) && is_use(used, event.translation())
 }
 
 /// Whether two replies are the same.
