@@ -1,5 +1,5 @@
 -- A board that follows a record, after one event more.
-use Rattle.std.proofs.Common.{◌≡◌, ◌↔◌, ℕ, ◌+◌, ◌<◌, Bool, true, false, not, List, [], ◌∷◌, ◌++◌, length, get_or, reverse, refl, sym, ap, subst, ◌∙◌, Result, Ok, Err, arith}
+use Rattle.std.proofs.Common.{◌≡◌, ◌↔◌, ℕ, ◌+◌, ◌<◌, Bool, true, false, not, List, [], ◌∷◌, ◌++◌, length, get_or, reverse, refl, sym, ap, subst, ◌∙◌, Option, Some, None, Result, Ok, Err, arith}
 use Rattle.std.specs.Prelude.{IfOk}
 use Rattle.std.specs.List.{All}
 use Rattle.std.proofs.lemmas.List.{length-append, reverse-reverse}
@@ -8,11 +8,13 @@ use mathlib.Core.List.{reverse-cons}
 use Rattle.sv39.specs.declared.cause.Cause.{Cause}
 use Rattle.hart_access.specs.declared.accesses.Access.{Access}
 use Rattle.hart_access.specs.declared.accesses.Access.TheVariants.{Fetch}
+use Rattle.board_terms.specs.declared.op.Actor.{Actor}
+use Rattle.board_terms.specs.declared.op.Actor.TheVariants.{Hart, Clock}
 use Rattle.board_terms.specs.declared.reply.Refusal.{Refusal}
 use Rattle.board_terms.specs.declared.reply.Reply.{Reply}
 use Rattle.board_core.specs.Accesses.{used_by_actor}
 use Rattle.board_core.specs.Course.{Course}
-use Rattle.board_core.specs.History.{Event}
+use Rattle.board_core.specs.History.{Event, Reach, access_of}
 use Rattle.board_core.specs.Opening.{Opening}
 use Rattle.board_core.specs.Replies.{answer, recorded, stepped}
 use Rattle.any_tlb.specs.Steady.{IsSteadyWord}
@@ -20,6 +22,8 @@ use Rattle.any_tlb.specs.WatchedWords.{WatchedWordsAgree}
 use Rattle.tlb_watch.specs.declared.hart_address.HartAddress.{HartAddress}
 use Rattle.tlb_watch.specs.Tracked.{IsTracking, addresses_of}
 use Rattle.tlb_watch.specs.Watched.{WatchedAddress}
+use Rattle.access_marks.specs.declared.marks.Marks.{Marks}
+use Rattle.access_marks.specs.Marks.{IsMarkedAs, IsMarkedStep, unmarked}
 use Rattle.access_marks.specs.Inside.Following.{IsNext}
 
 -- what holds of a value that there is
@@ -117,3 +121,20 @@ word-steady o past h place address false is tells decides = (
 pub no-word : (o : Opening) (past : List Event) (h : ℕ) (place : Result ℕ Cause) (cause : Cause) → place ≡ Err cause
     → (true ≡ true) ↔ ((let fetch : Access = Fetch in fetch) ≡ Fetch → (pa : ℕ) → place ≡ Ok pa → IsSteadyWord o past h pa)
 no-word o past h place cause is = ((λ good fetch pa there. let e = sym is ∙ there in absurd cc), (λ steady. refl))
+
+-- ---- marks
+
+pub of-access : (o : Opening) (past : List Event) (event : Event) (h : ℕ) (reach : Reach) (m : Marks) → event.actor ≡ Hart h → access_of event.op ≡ Some reach → IsMarkedAs o past h event reach m
+    → IsMarkedStep o past event event.actor (access_of event.op) m
+of-access o past event h reach m own access marked =
+    subst (λ (actor : Actor). IsMarkedStep o past event actor (access_of event.op) m) (sym own)
+    (subst (λ (reach : Option Reach). IsMarkedStep o past event (Hart h) reach m) (sym access) marked)
+
+pub of-other : (o : Opening) (past : List Event) (event : Event) (h : ℕ) (m : Marks) → event.actor ≡ Hart h → access_of event.op ≡ None → m ≡ unmarked
+    → IsMarkedStep o past event event.actor (access_of event.op) m
+of-other o past event h m own none same =
+    subst (λ (actor : Actor). IsMarkedStep o past event actor (access_of event.op) m) (sym own)
+    (subst (λ (reach : Option Reach). IsMarkedStep o past event (Hart h) reach m) (sym none) same)
+
+pub of-clock : (o : Opening) (past : List Event) (event : Event) (m : Marks) → event.actor ≡ Clock → m ≡ unmarked → IsMarkedStep o past event event.actor (access_of event.op) m
+of-clock o past event m own same = subst (λ (actor : Actor). IsMarkedStep o past event actor (access_of event.op) m) (sym own) same
