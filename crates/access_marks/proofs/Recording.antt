@@ -8,13 +8,16 @@ use Rattle.board_terms.specs.declared.op.Actor.{Actor}
 use Rattle.board_terms.specs.declared.op.Actor.TheVariants.{Hart, Clock}
 use Rattle.board_terms.specs.declared.op.Op.{Op}
 use Rattle.board_terms.specs.declared.reply.Reply.{Reply}
-use Rattle.board_core.specs.History.{Event}
+use Rattle.board_core.specs.History.{Event, access_of}
 use Rattle.board_core.specs.Opening.{Opening}
 use Rattle.board_core.specs.Replies.{IsLegal, answer}
 use Rattle.board_rules.proofs.InCalls.{taken}
 use Rattle.board_laws.proofs.Places.{legal-older}
-use Rattle.access_marks.specs.Inside.Accessed.{IsPresent}
-use Rattle.access_marks.specs.Inside.Following.{IsNext}
+use Rattle.access_marks.specs.Inside.Accessed.{IsPresent, IsWatched}
+use Rattle.tlb_watch.specs.declared.hart_address.HartAddress.{HartAddress}
+use Rattle.access_marks.specs.declared.marks.Marks.{Marks}
+use Rattle.access_marks.specs.Marks.{AreMarked, IsMarkedStep}
+use Rattle.access_marks.specs.Inside.Following.{Following, IsNext}
 
 -- ---- lists
 
@@ -53,8 +56,49 @@ legal-at o events i event inside is legal =
     (legal-older o (reverse (drop (i + 1) events)) (reverse (take (i + 1) events))
     (subst (IsLegal o) (ap reverse (sym (take-append-drop (i + 1) events)) ∙ reverse-append (take (i + 1) events) (drop (i + 1) events)) legal))
 
-pub next-of : (o : Opening) (past : List Event) (event : Event) → IsLegal o (event ∷ past) → IsNext o past event
+next-of : (o : Opening) (past : List Event) (event : Event) → IsLegal o (event ∷ past) → IsNext o past event
 next-of o past event legal = record { answered = legal.0; uses = legal.1 }
 
-pub legal-next : (o : Opening) (past : List Event) (event : Event) → IsLegal o past → IsNext o past event → IsLegal o (event ∷ past)
+legal-next : (o : Opening) (past : List Event) (event : Event) → IsLegal o past → IsNext o past event → IsLegal o (event ∷ past)
 legal-next o past event legal next = (next.answered, next.uses, legal)
+
+-- ---- a board at a place of a record
+
+-- a board that took the first events of a record
+abbrev pub at : Opening → List Event → (i : ℕ) → List HartAddress → Following
+at o events i addresses = record { course = record { opening = o; past = reverse (take i events) }; addresses = addresses }
+
+-- a following board that took one event more
+abbrev pub after : Following → Event → Following
+after f event = record { course = record { opening = f.course.opening; past = event ∷ f.course.past }; addresses = f.addresses }
+
+module _ (o : Opening) (events : List Event) (i : ℕ) (event : Event) (addresses : List HartAddress) (f : Following) (inside : i < length events) (is : event ≡ get_or events i event)
+    (here : f ≡ at o events i addresses) where
+  pub watched-at : All (IsWatched o.config.harts addresses) events → IsWatched f.course.opening.config.harts f.addresses event
+  watched-at all =
+      subst (λ (f : Following). IsWatched f.course.opening.config.harts f.addresses event) (sym here)
+      (subst (IsWatched o.config.harts addresses) (sym is) (all i event inside))
+
+  -- it isn't the next one
+  pub not-next : (IsNext f.course.opening f.course.past event → ⊥) → IsLegal o (reverse events) → ⊥
+  not-next other legal =
+      other (subst (λ (f : Following). IsNext f.course.opening f.course.past event) (sym here) (next-of o (reverse (take i events)) event (legal-at o events i event inside is legal)))
+
+  -- it is the next one
+  module _ (g : Following) (next : IsNext f.course.opening f.course.past event) (went : g ≡ after f event) where
+    pub next-at : g ≡ at o events (i + 1) addresses
+    next-at =
+        went ∙ ap (λ (f : Following). after f event) here
+        ∙ ap (λ (past : List Event). let one : Following = record { course = record { opening = o; past = past }; addresses = addresses } in one) (sym (one-more events i event inside is))
+
+    pub still-legal : IsLegal o (reverse (take i events)) → IsLegal o (reverse (take (i + 1) events))
+    still-legal legal =
+        subst (IsLegal o) (sym (one-more events i event inside is))
+        (legal-next o (reverse (take i events)) event legal (subst (λ (f : Following). IsNext f.course.opening f.course.past event) here next))
+
+    pub still-marked : (marks : List Marks) (m : Marks) → IsMarkedStep f.course.opening f.course.past event event.actor (access_of event.op) m → AreMarked o (reverse (take i events)) (reverse marks)
+        → AreMarked o (reverse (take (i + 1) events)) (reverse (marks ++ m ∷ []))
+    still-marked marks m marked rest =
+        subst (λ (past : List Event). AreMarked o past (reverse (marks ++ m ∷ []))) (sym (one-more events i event inside is))
+        (subst (AreMarked o (event ∷ reverse (take i events))) (sym (reverse-append marks (m ∷ [])))
+        (subst (λ (f : Following). IsMarkedStep f.course.opening f.course.past event event.actor (access_of event.op) m) here marked, rest))
