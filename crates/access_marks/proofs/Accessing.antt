@@ -8,7 +8,7 @@ use Rattle.board_terms.specs.declared.op.Actor.{Actor}
 use Rattle.board_terms.specs.declared.op.Actor.TheVariants.{Hart, Clock}
 use Rattle.board_core.specs.History.{Event, Reach, access_of}
 use Rattle.tlb_watch.specs.declared.hart_address.HartAddress.{HartAddress}
-use Rattle.access_marks.specs.Inside.Accessed.{IsPresent, IsPut, IsWatched, accessed_by, address_of}
+use Rattle.access_marks.specs.Inside.Accessed.{IsGrown, IsPresent, IsPut, IsWatched, accessed_by, address_of}
 
 -- ---- an address that was put behind others
 
@@ -47,7 +47,7 @@ module _ (harts : ℕ) (events : List Event) (i : ℕ) (e : Event) (inside : i <
       (subst (IsWatched harts new) is here)
 
   -- it accesses an address
-  pub watched-put : (at : HartAddress) (old new : List HartAddress) → address_of e ≡ Some at → IsPut at old new → AreWatched old i → AreWatched new (i + 1)
+  watched-put : (at : HartAddress) (old new : List HartAddress) → address_of e ≡ Some at → IsPut at old new → AreWatched old i → AreWatched new (i + 1)
   watched-put at old new accesses put are = (
     put-all (λ (a : HartAddress). a.hart < harts) at old new put are.0 (hart-there harts e.actor (access_of e.op) at present accesses),
     grown old new (put-kept at old new put)
@@ -55,11 +55,15 @@ module _ (harts : ℕ) (events : List Event) (i : ℕ) (e : Event) (inside : i <
   )
 
   -- it accesses none
-  pub watched-none : (old : List HartAddress) → address_of e ≡ None → AreWatched old i → AreWatched old (i + 1)
+  watched-none : (old : List HartAddress) → address_of e ≡ None → AreWatched old i → AreWatched old (i + 1)
   watched-none old accesses are = (
     are.0,
     grown old old (λ x there. there) (record { present = present; watched = λ other is. let none = sym accesses ∙ is in cc }) are.1,
   )
+
+  pub watched-more : (found : Option HartAddress) (old new : List HartAddress) → address_of e ≡ found → IsGrown found old new → AreWatched old i → AreWatched new (i + 1)
+  watched-more (Some at) old new accesses put are = watched-put at old new accesses put are
+  watched-more None old new accesses same are = subst (λ (l : List HartAddress). AreWatched l (i + 1)) (sym same) (watched-none old accesses are)
 
 -- a record with an actor that isn't there
 pub not-all-present : (harts : ℕ) (events : List Event) (i : ℕ) (e : Event) → i < length events → e ≡ get_or events i e → (IsPresent harts e.actor → ⊥)

@@ -3,7 +3,7 @@ ghost use Rattle.std.specs.Prelude.{◌≡◌, ◌↔◌, ◌<◌, IfOk, MatchOp
 ghost use Rattle.std.specs.List.{All, Contains};
 ghost use Rattle.board_core.specs.History.{Event as Step};
 ghost use Rattle.tlb_watch.specs.declared.hart_address.HartAddress.{HartAddress as Place};
-ghost use Rattle.access_marks.specs.Inside.Accessed.{IsPresent, IsPut, IsWatched, address_of, accessed_by};
+ghost use Rattle.access_marks.specs.Inside.Accessed.{IsGrown, IsPresent, IsPut, IsWatched, address_of};
 
 use board_core::{Actor, Event};
 use board_rules::access_of;
@@ -29,9 +29,7 @@ pub(crate) fn accessed(
         if !is_present(harts, event.actor()) {
             return Ok(None);
         }
-        if let Some(at) = address_of(event) {
-            put(&mut addresses, at)?;
-        }
+        put_address(&mut addresses, event)?;
     }
     Ok(Some(addresses))
 }
@@ -59,6 +57,20 @@ fn address_of(event: &Event) -> Option<HartAddress>
     }
 }
 
+/// Puts the address that an event accesses behind the others, unless it is among them.
+///
+/// # Errors
+///
+/// Out of memory.
+fn put_address(addresses: &mut Vec<HartAddress>, event: &Event) -> Result<(), AllocError>
+    ensures { IfOk result (λ _. IsGrown (address_of event.now) addresses.old.items addresses.new.items) }
+{
+    match address_of(event) {
+        Some(at) => put(addresses, at),
+        None => Ok(()),
+    }
+}
+
 /// Puts an address behind the others, unless it is among them.
 ///
 /// # Errors
@@ -67,9 +79,10 @@ fn address_of(event: &Event) -> Option<HartAddress>
 fn put(addresses: &mut Vec<HartAddress>, at: HartAddress) -> Result<(), AllocError>
     ensures { IfOk result (λ _. IsPut at addresses.old.items addresses.new.items) }
 {
-    if !has(addresses, at) {
-        addresses.push(at)?;
+    if has(addresses, at) {
+        return Ok(());
     }
+    addresses.push(at)?;
     Ok(())
 }
 

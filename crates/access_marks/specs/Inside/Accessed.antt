@@ -29,3 +29,8 @@ pub record IsWatched (harts : ℕ) (addresses : List HartAddress) (event : Event
 -- the address was put behind the others, or is among them
 abbrev pub IsPut : HartAddress → (old new : List HartAddress) → Type 0
 IsPut at old new = (Contains old at × (new ≡ old)) ⊎ (new ≡ old ++ at ∷ [])
+
+-- the address that an event accesses, if it accesses one, was put so
+abbrev pub IsGrown : Option HartAddress → (old new : List HartAddress) → Type 0
+IsGrown None old new = new ≡ old
+IsGrown (Some at) old new = IsPut at old new
