@@ -1,6 +1,6 @@
 //! Reads the words of a condition.
-ghost use Rattle.std.specs.Prelude.{◌≡◌, ◌+◌, ◌<◌, ◌∷◌, [], Bool, IfOk, MatchOption, drop, length, take};
-ghost use Rattle.condition_script.specs.Grammar.{AreEndings, RuleValue, IsRuleOf, IsAsked, IsPattern, IsRule, Wanted, mark_name, marked, rule_value, wanted};
+ghost use Rattle.std.specs.Prelude.{◌≡◌, ◌+◌, ◌<◌, ◌∷◌, [], Bool, IfOk, MatchOption, None, drop, length, take};
+ghost use Rattle.condition_script.specs.Grammar.{AreEndings, Never as NeverValue, RuleValue, IsRuleOf, IsAsked, IsPattern, IsRule, Wanted, mark_name, marked, rule_value, wanted};
 ghost use Rattle.condition_script.specs.Inside.Reading.{Gives, texts};
 ghost use Rattle.condition_script.specs.declared.keywords.Keyword.TheVariants as keywords;
 ghost use Rattle.condition_script.specs.declared.marks.Mark.{Mark as Marking};
@@ -10,7 +10,7 @@ use crate::items::Item;
 use crate::keywords::Keyword;
 use crate::marks::Mark;
 use crate::names::Name;
-use crate::pattern_words::{reply, step, step_or_any};
+use crate::pattern_words::{any_step, reply, step, step_or_any};
 use crate::patterns::Pattern;
 use crate::rules::{Ending, Rule};
 use crate::words::{Word, place_of, with_commas};
@@ -60,10 +60,29 @@ fn asks(alloc: Global, keyword: Keyword, words: &[Word<'_>]) -> Result<Rule, Wro
 fn never(alloc: Global, words: &[Word<'_>]) -> Result<Rule, Wrong>
     ensures { Gives rule_value (IsRuleOf keywords.Never (texts words.now)) result }
 {
-    if let Some(mark) = lone_mark(words) {
-        let any = step_or_any(alloc, &[])?;
-        return Ok(Rule::Never(marked(alloc, mark, any)?));
+    match lone_mark(words) {
+        Some(mark) => Ok(never_marked(alloc, mark)?),
+        None => never_matched(alloc, words),
     }
+}
+
+/// No step has the mark.
+///
+/// # Errors
+///
+/// Out of memory.
+fn never_marked(alloc: Global, mark: Mark) -> Result<Rule, AllocError>
+    ensures { IfOk result (λ rule. rule_value rule ≡ NeverValue (marked mark (None ∷ []))) }
+{
+    let any = any_step(alloc)?;
+    Ok(Rule::Never(marked(alloc, mark, any)?))
+}
+
+/// No step is one of a pattern, or of a pattern after one of another.
+fn never_matched(alloc: Global, words: &[Word<'_>]) -> Result<Rule, Wrong>
+    requires { (mark : Marking) → texts words.now ≡ mark_name mark ∷ [] → ⊥ }
+    ensures { Gives rule_value (IsRuleOf keywords.Never (texts words.now)) result }
+{
     match place_of(words, b"after") {
         Some(k) => {
             let (p, q) = both(alloc, words, k)?;

@@ -1,5 +1,5 @@
 //! The words of a pattern: an actor, names, and numbers.
-ghost use Rattle.std.specs.Prelude.{◌≡◌, ℕ, MatchOption, Option, false, true};
+ghost use Rattle.std.specs.Prelude.{◌≡◌, ◌∷◌, [], ℕ, IfOk, MatchOption, None, Option, false, true};
 ghost use Rattle.condition_script.specs.Grammar.{AreNumberWords, AsksActor, AsksName, AsksNumber, IsMarkName, IsNameOf, IsNameAndNumbers, IsSaidName, IsStepOrAny, IsStepPattern, most_numbers};
 ghost use Rattle.condition_script.specs.Inside.Reading.{Gives, Puts, texts};
 ghost use Rattle.condition_script.specs.declared.items.Item.{Item as Word};
@@ -11,7 +11,7 @@ use crate::names::Name;
 use crate::words::Word as Placed;
 use line_words::{number as unsigned_number, signed_number};
 use script_lines::{LAST_HART, OP_NUMBERS, OpName, SAID_NUMBERS, SaidName};
-use std::alloc::Global;
+use std::alloc::{AllocError, Global};
 
 /// Reads words as a step: an actor, and its operation.
 pub(crate) fn step(alloc: Global, words: &[Placed<'_>]) -> Result<Vec<Option<Item>>, Wrong>
@@ -36,11 +36,22 @@ pub(crate) fn step_or_any(alloc: Global, words: &[Placed<'_>]) -> Result<Vec<Opt
     ensures { Gives (λ found. found.items) (IsStepOrAny (texts words.now)) result }
 {
     if words.is_empty() {
-        let mut found = Vec::new(alloc);
-        found.push(None)?;
-        return Ok(found);
+        return Ok(any_step(alloc)?);
     }
     step(alloc, words)
+}
+
+/// Any step.
+///
+/// # Errors
+///
+/// Out of memory.
+pub(crate) fn any_step(alloc: Global) -> Result<Vec<Option<Item>>, AllocError>
+    ensures { IfOk result (λ found. found.items ≡ None ∷ []) }
+{
+    let mut found = Vec::new(alloc);
+    found.push(None)?;
+    Ok(found)
 }
 
 /// Reads words as a reply.
