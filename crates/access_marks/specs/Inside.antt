@@ -2,4 +2,5 @@
 pub mod Accessed
 pub mod Changes
 pub mod Following
+pub mod Quiet
 pub mod Words
