@@ -3,4 +3,5 @@ pub mod Wording
 pub mod Recording
 pub mod Accessing
 pub mod Following
+pub mod Quieting
 pub mod Marking

@@ -5,8 +5,9 @@ ghost use Rattle.any_tlb.specs.Effects.{effect_at};
 ghost use Rattle.tlb_watch.specs.Effects.{effect_on};
 ghost use Rattle.tlb_watch.specs.Tracked.{satp_in};
 ghost use Rattle.access_marks.specs.Inside.Accessed.{IsPresent};
+ghost use Rattle.access_marks.specs.Inside.Quiet.{is_quiet};
 
-use board_core::{Actor, Board, Event};
+use board_core::{Actor, Board, Event, Op};
 use std::alloc::{AllocError, Global};
 use sv39::Satp;
 use tlb_watch::{CacheEffect, Ready};
@@ -22,6 +23,18 @@ pub(crate) fn effect_of(board: &Board, event: &Event) -> CacheEffect
             ready.effect(board.config(), event.op(), event.reply())
         }
         Actor::Clock => CacheEffect::Nothing,
+    }
+}
+
+/// Whether an operation does nothing to caches, and changes neither the memory nor a satp, whatever its reply.
+pub(crate) fn is_quiet(op: Op) -> bool
+    ensures { result ≡ is_quiet op }
+{
+    match op {
+        Op::Load(_) | Op::Fetch(_) => true,
+        Op::WriteSie(_) | Op::WriteSstatusSie(_) | Op::ReadSip | Op::ClearSsip | Op::Wfi => true,
+        Op::Poll | Op::Tick(_) => true,
+        _ => false,
     }
 }
 

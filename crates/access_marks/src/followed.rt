@@ -21,12 +21,12 @@ ghost use Rattle.access_marks.specs.Inside.Words.{AreNoted};
 ghost use Rattle.access_marks.specs.Marks.{IsMarkedAs, IsMarkedStep};
 
 use crate::changes::{Written, changed, written};
-use crate::effects::{effect_of, satps};
+use crate::effects::{effect_of, is_quiet, satps};
 use crate::marks::Marks;
 use crate::taking::takes;
 use crate::words::{WordNote, differs, note_change, note_effect};
 use any_tlb::watched_words_decide;
-use board_core::{Actor, Board, Cause, Config, Entry, Event, Kind};
+use board_core::{Actor, Board, Cause, Config, Entry, Event, Kind, Op};
 use board_rules::access_of;
 use hart_access::{Access, Way};
 use std::alloc::{AllocError, Global};
@@ -34,7 +34,7 @@ use std::marker::Model;
 use tlb_model::Tlb;
 use tlb_watch::{
     CacheEffect, HartAddress, Tracker, first_watches_are_watches, is_stale,
-    trackers_follow_histories,
+    trackers_follow_histories, trackers_outlast_quiet_events,
 };
 
 /// A board at a place of a record, and what its harts' caches may hold there for the addresses that the record accesses.
@@ -215,7 +215,7 @@ impl Followed {
             return Ok(None);
         }
         note(&mut notes, &board, word, effect)?;
-        let tracker = track(alloc, tracker, &board, effect)?;
+        let tracker = track(alloc, tracker, &board, event.op(), effect)?;
         Ok(Some(Followed {
             board,
             tracker,
@@ -246,7 +246,8 @@ fn note(
     note_effect(notes, effect)
 }
 
-/// Watches the addresses after the board's last event, which did this to caches.
+/// Watches the addresses after the board's last event, which was of this operation, and did this to caches. Most events need no
+/// look.
 ///
 /// # Errors
 ///
@@ -255,16 +256,22 @@ fn track(
     alloc: Global,
     tracker: Tracker,
     board: &Board,
+    op: Op,
     effect: CacheEffect,
 ) -> Result<Tracker, AllocError>
     requires { All (λ (w : WatchedAddress). w.at.hart < board.now.opening.config.harts) tracker }
     ensures { IfOk result (λ after. (event : Step) (past : List Step) (addresses : List Place)
         → board.now.past ≡ event ∷ past
+        → event.op ≡ op
         → ((h : ℕ) → effect_on effect h ≡ effect_at board.now.opening past event h)
         → IsTracking board.now.opening past addresses tracker
         → IsTracking board.now.opening (event ∷ past) addresses after) }
 {
+    trackers_outlast_quiet_events();
     trackers_follow_histories();
+    if is_quiet(op) {
+        return Ok(tracker);
+    }
     let satps = satps(alloc, board)?;
     tracker.happened(alloc, effect, board.view().ram(), &satps)
 }

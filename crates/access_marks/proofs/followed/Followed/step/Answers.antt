@@ -31,11 +31,11 @@ invariant_of-result c =
     let tracker = c.self.inside.tracker in
     let after = c.in_ok-tracker.tracker in
     let grew = c.takes.ensures.after c.if-not-takes.false in
-    let tracks = subst (λ (b : Course). (event : Event) (past : List Event) (addresses : List HartAddress) → b.past ≡ event ∷ past
-        → ((h : ℕ) → effect_on c.effect_of-effect.result h ≡ effect_at b.opening past event h) → IsTracking b.opening past addresses tracker → IsTracking b.opening (event ∷ past) addresses after)
-    grew c.in_ok-tracker.ensures event b.past (addresses_of tracker) refl c.effect_of-effect.ensures c.self.invariant.0 in
+    let tracks = subst (λ (b : Course). (event : Event) (past : List Event) (addresses : List HartAddress) → b.past ≡ event ∷ past → event.op ≡ c.op.result
+    → ((h : ℕ) → effect_on c.effect_of-effect.result h ≡ effect_at b.opening past event h) → IsTracking b.opening past addresses tracker → IsTracking b.opening (event ∷ past) addresses after)
+    grew c.in_ok-tracker.ensures event b.past (addresses_of tracker) refl (sym c.op.ensures) c.effect_of-effect.ensures c.self.invariant.0 in
     let notes = subst (λ (b : Course). (event : Event) (past : List Event) → b.past ≡ event ∷ past → SaysWritten b.opening past event c.written-word.result
-        → ((h : ℕ) → effect_on c.effect_of-effect.result h ≡ effect_at b.opening past event h) → AreNoted b.opening past c.self.inside.notes.items → AreNoted b.opening (event ∷ past) c.note.new.notes.items)
+    → ((h : ℕ) → effect_on c.effect_of-effect.result h ≡ effect_at b.opening past event h) → AreNoted b.opening past c.self.inside.notes.items → AreNoted b.opening (event ∷ past) c.note.new.notes.items)
     grew c.in_ok-note.ensures event b.past refl
     (subst (λ (b : Course). SaysWritten b.opening b.past event c.written-word.result) c.view.ensures c.written-word.ensures) c.effect_of-effect.ensures c.self.invariant.1 in (
       subst (λ (b : Course). IsTracking b.opening b.past (addresses_of after) after) (sym grew) (of-own b.opening (event ∷ b.past) (addresses_of tracker) after tracks),
@@ -55,9 +55,9 @@ returns c =
     let tracker = c.self.inside.tracker in
     let after = c.in_ok-tracker.tracker in
     let grew = c.takes.ensures.after c.if-not-takes.false in
-    let tracks = subst (λ (b : Course). (event : Event) (past : List Event) (addresses : List HartAddress) → b.past ≡ event ∷ past
-        → ((h : ℕ) → effect_on c.effect_of-effect.result h ≡ effect_at b.opening past event h) → IsTracking b.opening past addresses tracker → IsTracking b.opening (event ∷ past) addresses after)
-    grew c.in_ok-tracker.ensures event b.past (addresses_of tracker) refl c.effect_of-effect.ensures c.self.invariant.0 in
+    let tracks = subst (λ (b : Course). (event : Event) (past : List Event) (addresses : List HartAddress) → b.past ≡ event ∷ past → event.op ≡ c.op.result
+    → ((h : ℕ) → effect_on c.effect_of-effect.result h ≡ effect_at b.opening past event h) → IsTracking b.opening past addresses tracker → IsTracking b.opening (event ∷ past) addresses after)
+    grew c.in_ok-tracker.ensures event b.past (addresses_of tracker) refl (sym c.op.ensures) c.effect_of-effect.ensures c.self.invariant.0 in
     let course = grew ∙ ap (λ (f : Following). record { opening = f.course.opening; past = event ∷ f.course.past }) c.self.view_is in
     let addresses = tracks.are ∙ ap (λ (f : Following). f.addresses) c.self.view_is in (
       subst (λ (f : Following). IsNext f.course.opening f.course.past event) c.self.view_is (c.takes.ensures.is.0 c.if-not-takes.false),
