@@ -163,6 +163,13 @@ pub of-none : (told : Bool) (p : Pattern) (mark : Mark) (op : OpName) → told �
 of-none false p mark op is marked means other = cc
 of-none true p mark op is marked means other = (mark, marked, (op, means, other, refl))
 
+pub of-one : (told : Bool) (p : Pattern) (op : OpName) → told ≡ true → MeansOp p op → is_access op ≡ true → (any : Misfit) → ¬ IsMarkMisfit told p any
+of-one false p op is means access any found = cc
+of-one true p op is means access any found =
+    let yes = subst (λ (o : OpName). is_access o ≡ true) (same-meant p op found.2.0 means found.2.1) access in
+    let no = found.2.2 in
+    cc
+
 pub of-access : (told : Bool) (p : Pattern) → told ≡ true → ((op : OpName) → MeansOp p op → is_access op ≡ true) → (any : Misfit) → ¬ IsMarkMisfit told p any
 of-access false p is access any found = cc
 of-access true p is access any found = let yes = access found.2.0 found.2.1 in let no = found.2.2 in cc

@@ -128,8 +128,14 @@ fn mark_misfit(p: &Pattern, mark: Mark, told: bool) -> Option<Misfit>
         return Some(Misfit::Untold(mark));
     }
     match op_meant(p) {
-        Some(op) if !is_access(op) => Some(Misfit::NoMark(op, mark)),
-        _ => None,
+        Some(op) => {
+            if is_access(op) {
+                None
+            } else {
+                Some(Misfit::NoMark(op, mark))
+            }
+        }
+        None => None,
     }
 }
 
