@@ -1,7 +1,7 @@
 -- The places of a record, and what is there at each.
 use Rattle.std.proofs.Common.{◌≡◌, ℕ, ◌+◌, ◌<◌, List, [], ◌∷◌, ◌++◌, length, take, drop, reverse, get_or, refl, sym, ap, subst, ◌∙◌, Result, Ok}
 use Rattle.std.specs.List.{All}
-use Rattle.std.proofs.lemmas.List.{reverse-append, reverse-reverse, take-append-drop, take_more}
+use Rattle.std.proofs.lemmas.List.{length-append, reverse-append, reverse-reverse, take-append-drop, take_more}
 use Rattle.std.proofs.lemmas.List.Elements.{All-cons, All-head, All-nil, All-push, All-same, All-tail}
 use mathlib.Core.List.{reverse-cons}
 use Rattle.board_terms.specs.declared.op.Actor.{Actor}
@@ -25,6 +25,11 @@ use Rattle.access_marks.specs.Inside.Following.{Following, IsNext}
 pub one-more : {A : Type 0} (xs : List A) (i : ℕ) (x : A) → i < length xs → x ≡ get_or xs i x → reverse (take (i + 1) xs) ≡ x ∷ reverse (take i xs)
 one-more xs i x inside is =
     ap reverse (take_more xs i x inside) ∙ reverse-append (take i xs) (get_or xs i x ∷ []) ∙ ap (λ y. y ∷ reverse (take i xs)) (sym is)
+
+-- the first elements of a list, with one more, are one more
+pub one-longer : {A B : Type 0} (xs : List A) (i : ℕ) (x : A) → i < length xs → x ≡ get_or xs i x → (ys : List B) (y : B) → length ys ≡ length (take i xs) → length (ys ++ y ∷ []) ≡ length (take (i + 1) xs)
+one-longer xs i x inside is ys y many =
+    length-append ys (y ∷ []) ∙ ap (λ n. n + 1) many ∙ sym (length-append (take i xs) (get_or xs i x ∷ [])) ∙ sym (ap length (take_more xs i x inside))
 
 all-reversed : {A : Type 0} (P : A → Type 0) (xs : List A) → All P xs → All P (reverse xs)
 all-reversed P [] all = All-nil P

@@ -10,11 +10,11 @@ use Rattle.std.specs.List.{AllZip}
 use Rattle.condition_script.specs.declared.items.Item.{Item}
 use Rattle.condition_script.specs.declared.words.Word.{Word}
 use Rattle.condition_script.specs.declared.marks.Mark.{Mark}
-use Rattle.condition_script.specs.Grammar.{ArePatterns, mark_name, RuleValue, IsRuleOf, IsAsked, IsPattern, Wanted, rule_value, keyword_named, keyword_word, with_commas, AreNumberWords, AsksActor, AsksName, AsksNumber, IsNameAndNumbers, IsNameOf, IsOperation, IsStepPattern, behind, has_mark, is_mark, up_to}
+use Rattle.condition_script.specs.Grammar.{ArePatterns, mark_name, mark_named, RuleValue, IsRuleOf, IsAsked, IsPattern, Wanted, rule_value, keyword_named, keyword_word, with_commas, AreNumberWords, AsksActor, AsksName, AsksNumber, IsNameAndNumbers, IsNameOf, IsOperation, IsStepPattern, behind, has_mark, is_mark, up_to, IsSaidName, IsMarkName}
 use Rattle.condition_script.specs.declared.faults.Wrong.{Wrong}
 use Rattle.condition_script.specs.Inside.Reading.{Gives, Puts, texts}
 use Rattle.condition_script.proofs.OneReading.{name_one, no_after}
-use Rattle.condition_script.proofs.Named.{keyword_own, none_named, one_named}
+use Rattle.condition_script.proofs.Named.{keyword_own, mark_own, none_named, one_named}
 use Rattle.condition_script.specs.declared.keywords.Keyword.{Keyword}
 use Rattle.condition_script.specs.declared.keywords.Keyword.TheVariants as keywords
 use Rattle.condition_script.specs.declared.rules.Rule.{Rule}
@@ -129,6 +129,13 @@ pub none_asked : (is_reply : Bool) (word : List ℕ) → bytes_eq word (codes "_
 none_asked is_reply word no_any no_name item most (inl any) = let same = (bytes_eq-Decides word (codes "_")).1 any.0 in let e = sym same ∙ no_any in absurd cc
 none_asked is_reply word no_any no_name item most (inr named) = no_name named.0 most named.1
 
+-- a word that names no reply and no mark
+pub none_said : (word : List ℕ) (found : Option (Item × ℕ)) → found ≡ None → MatchOption found ((item : Item) (most : ℕ) → IsSaidName word item most → ⊥) (λ f. IsSaidName word f.0 f.1)
+    → ((item : Item) (most : ℕ) → IsMarkName word item most → ⊥) → (item : Item) (most : ℕ) → IsNameOf true word item most → ⊥
+none_said word (Some f) is no_said no_mark item most named = absurd cc
+none_said word None is no_said no_mark item most (inl said) = no_said item most said
+none_said word None is no_said no_mark item most (inr mark) = no_mark item most mark
+
 pub name_asked : (is_reply : Bool) (word : List ℕ) (found : Option (Option Item × ℕ)) → bytes_eq word (codes "_") ≡ false
     → MatchOption found ((item : Item) (most : ℕ) → IsNameOf is_reply word item most → ⊥) (λ f. AsksName is_reply word f.0 f.1)
     → MatchOption found ((item : Option Item) (most : ℕ) → AsksName is_reply word item most → ⊥) (λ f. AsksName is_reply word f.0 f.1)
@@ -195,6 +202,16 @@ pub no_plain_never : (words : List (List ℕ)) → has_mark (codes "after") word
 no_plain_never words unmarked other none a (inl x) = none x.0 x.3
 no_plain_never words unmarked other none a (inr (inl x)) = let e = sym x.3.0 ∙ unmarked in absurd cc
 no_plain_never words unmarked other none a (inr (inr x)) = other x.0 x.2
+
+-- one word is a mark as a word is
+pub lone_read : (words : List Word) (w : Word) (found : Option Mark) → length words ≡ 1 → w ≡ get_or words 0 w → MatchOption found (mark_named w.text.now ≡ None) (λ m. w.text.now ≡ mark_name m)
+    → MatchOption found ((mark : Mark) → texts words ≡ mark_name mark ∷ [] → ⊥) (λ m. texts words ≡ mark_name m ∷ [])
+lone_read [] w found one here named = absurd cc
+lone_read (v ∷ u ∷ words) w found one here named = absurd cc
+lone_read (v ∷ []) w (Some m) one here named = ap (λ t. t ∷ []) (sym (ap text_of here) ∙ named)
+lone_read (v ∷ []) w None one here none = λ mark lone.
+    let word : v.text.now ≡ mark_name mark = cc in
+    none_named mark_named mark_name mark_own w.text.now mark none (ap text_of here ∙ word)
 
 pub no_before : (words commas front back : List (List ℕ)) → commas ≡ with_commas words → front ≡ up_to (codes ",") commas → back ≡ behind (codes ",") commas
     → ((ps : Wanted × Wanted) → IsPattern front ps.0 × IsPattern back ps.1 → ⊥) → (a : RuleValue) → IsRuleOf keywords.Before words a → ⊥

@@ -1,4 +1,4 @@
-use Rattle.std.proofs.Common.{◌≡◌, reverse, take}
+use Rattle.std.proofs.Common.{◌≡◌, length, reverse, take}
 use Rattle.board_core.specs.Opening.{opening_at}
 use Rattle.board_core.specs.Replies.{IsLegal}
 use Rattle.access_marks.specs.Marks.{AreMarked}
@@ -12,4 +12,5 @@ invariant-loop-event l = record {
   };
   legal : IsLegal (opening_at l.config) (reverse (take l.event-index l.events));
   marked : AreMarked (opening_at l.config) (reverse (take l.event-index l.events)) (reverse l.marks.items);
+  many : length l.marks.items ≡ length (take l.event-index l.events);
 }
