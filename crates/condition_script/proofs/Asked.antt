@@ -3,14 +3,14 @@ use Rattle.std.proofs.Common.{◌≡◌, ℕ, zero, suc, ◌+◌, ◌<◌, ◌�
 use Rattle.std.specs.Prelude.{MatchOption, ◌⊎◌, slice_get}
 use Rattle.std.specs.Str.{bytes_eq}
 use Rattle.std.proofs.lemmas.Slice.Eq.{bytes_eq-Decides}
-use Rattle.std.proofs.lemmas.Bool.{ltb-true, lt-ltb}
+use Rattle.std.proofs.lemmas.Bool.{eqb-true, ltb-true, lt-ltb}
 use Rattle.std.proofs.lemmas.List.{length-map, take_all}
 use Rattle.std.proofs.lemmas.Option.{get_or_from_slice_get, slice_get-get_or}
 use Rattle.std.specs.List.{AllZip}
 use Rattle.condition_script.specs.declared.items.Item.{Item}
 use Rattle.condition_script.specs.declared.words.Word.{Word}
 use Rattle.condition_script.specs.declared.marks.Mark.{Mark}
-use Rattle.condition_script.specs.Grammar.{ArePatterns, mark_name, mark_named, RuleValue, IsRuleOf, IsAsked, IsPattern, Wanted, rule_value, keyword_named, keyword_word, with_commas, AreNumberWords, AsksActor, AsksName, AsksNumber, IsNameAndNumbers, IsNameOf, IsOperation, IsStepPattern, behind, has_mark, is_mark, up_to, IsSaidName, IsMarkName}
+use Rattle.condition_script.specs.Grammar.{ArePatterns, mark_name, mark_named, RuleValue, IsRuleOf, IsAsked, IsPattern, Wanted, rule_value, keyword_named, keyword_word, with_commas, AreNumberWords, AsksActor, AsksName, AsksNumber, IsNameAndNumbers, IsNameOf, IsOperation, IsStepOrAny, IsStepPattern, behind, has_mark, is_mark, up_to, IsSaidName, IsMarkName}
 use Rattle.condition_script.specs.declared.faults.Wrong.{Wrong}
 use Rattle.condition_script.specs.Inside.Reading.{Gives, Puts, texts}
 use Rattle.condition_script.proofs.OneReading.{name_one, no_after}
@@ -203,15 +203,28 @@ no_plain_never words unmarked other none a (inl x) = none x.0 x.3
 no_plain_never words unmarked other none a (inr (inl x)) = let e = sym x.3.0 ∙ unmarked in absurd cc
 no_plain_never words unmarked other none a (inr (inr x)) = other x.0 x.2
 
--- one word is a mark as a word is
-pub lone_read : (words : List Word) (w : Word) (found : Option Mark) → length words ≡ 1 → w ≡ get_or words 0 w → MatchOption found (mark_named w.text.now ≡ None) (λ m. w.text.now ≡ mark_name m)
-    → MatchOption found ((mark : Mark) → texts words ≡ mark_name mark ∷ [] → ⊥) (λ m. texts words ≡ mark_name m ∷ [])
-lone_read [] w found one here named = absurd cc
-lone_read (v ∷ u ∷ words) w found one here named = absurd cc
-lone_read (v ∷ []) w (Some m) one here named = ap (λ t. t ∷ []) (sym (ap text_of here) ∙ named)
-lone_read (v ∷ []) w None one here none = λ mark lone.
-    let word : v.text.now ≡ mark_name mark = cc in
-    none_named mark_named mark_name mark_own w.text.now mark none (ap text_of here ∙ word)
+-- one word is a mark as it names one
+pub lone_read : (words : List Word) (first : Word) (rest : List Word) → words ≡ first ∷ rest → eqb (length rest) 0 ≡ true → (found : Option Mark)
+    → MatchOption found (mark_named first.text.now ≡ None) (λ m. first.text.now ≡ mark_name m) → MatchOption found ((mark : Mark) → texts words ≡ mark_name mark ∷ [] → ⊥) (λ m. texts words ≡ mark_name m ∷ [])
+lone_read words first (v ∷ rest) parts one found named = let e : length (v ∷ rest) ≡ 0 = eqb-true (length (v ∷ rest)) 0 one in absurd (omega (arith, e))
+lone_read words first [] parts one (Some m) named = rw parts (ap (λ t. t ∷ []) named)
+lone_read words first [] parts one None none = λ mark lone.
+    let here : texts (first ∷ []) ≡ mark_name mark ∷ [] = rw parts at lone in
+    let word : first.text.now ≡ mark_name mark = cc in
+    none_named mark_named mark_name mark_own first.text.now mark none word
+
+-- more words are none
+pub not_lone : (words : List Word) (first : Word) (rest : List Word) → words ≡ first ∷ rest → eqb (length rest) 0 ≡ false → (mark : Mark) → texts words ≡ mark_name mark ∷ [] → ⊥
+not_lone words first [] parts some mark lone = absurd cc
+not_lone words first (v ∷ rest) parts some mark lone =
+    let here : texts (first ∷ v ∷ rest) ≡ mark_name mark ∷ [] = rw parts at lone in
+    absurd cc
+
+-- words that are a step are no empty ones
+pub step_given : {X : Type 0} (words : List Word) → eqb (length words) 0 ≡ false → (view : X → List (Option Item)) (result : Result X Wrong)
+    → Gives view (IsStepPattern (texts words)) result → Gives view (IsStepOrAny (texts words)) result
+step_given [] some view result gives = absurd cc
+step_given (w ∷ words) some view result gives = gives
 
 pub no_before : (words commas front back : List (List ℕ)) → commas ≡ with_commas words → front ≡ up_to (codes ",") commas → back ≡ behind (codes ",") commas
     → ((ps : Wanted × Wanted) → IsPattern front ps.0 × IsPattern back ps.1 → ⊥) → (a : RuleValue) → IsRuleOf keywords.Before words a → ⊥

@@ -97,8 +97,11 @@ fn lone_mark(words: &[Word<'_>]) -> Option<Mark>
     ensures { MatchOption result ((mark : Marking) → texts words.now ≡ mark_name mark ∷ [] → ⊥)
         (λ mark. texts words.now ≡ mark_name mark ∷ []) }
 {
-    if words.len() == 1 {
-        Mark::of(words[0].text)
+    let Some((first, rest)) = words.split_first() else {
+        return None;
+    };
+    if rest.is_empty() {
+        Mark::of(first.text)
     } else {
         None
     }

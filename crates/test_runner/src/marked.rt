@@ -3,7 +3,7 @@ ghost use Rattle.std.specs.Prelude.{IfSome};
 ghost use Rattle.board_terms.specs.Limits.{IsGood};
 
 use access_marks::{Marks, marks_of};
-use board_core::{Config, Event, Op};
+use board_core::{Config, Event, Op, Reply};
 use conditions::{
     Condition, Pattern, Rule, first_misfit, first_misfit_with, fits_step, has_fitting,
 };
@@ -89,7 +89,8 @@ pub(crate) fn failing_place(
     }
 }
 
-/// Whether each pattern of a condition has a step in a record. Of a mark only a translated access, or a fetch, counts.
+/// Whether each pattern of a condition has a step in a record. Of a mark only an access counts that is translated, is a fetch, or
+/// faults.
 pub(crate) fn is_met_by(rule: &Rule, events: &[Event]) -> bool {
     if !asks_of_marks(rule) {
         return is_met(rule, events);
@@ -109,11 +110,12 @@ fn has_step(p: &Pattern, events: &[Event]) -> bool {
     }
 }
 
-/// Whether some translated access, or some fetch, fits a pattern.
+/// Whether some access that is translated, is a fetch, or faults fits a pattern.
 fn has_access(p: &Pattern, events: &[Event]) -> bool {
     for event in events {
         let is_fetch = matches!(event.op(), Op::Fetch(_));
-        if fits_step(p, event) && (is_fetch || event.translation().is_some()) {
+        let faults = matches!(event.reply(), Reply::Fault(_));
+        if fits_step(p, event) && (is_fetch || faults || event.translation().is_some()) {
             return true;
         }
     }

@@ -1,5 +1,9 @@
-use Rattle.condition_script.proofs.Asked.{lone_read}
+use Rattle.std.proofs.Common.{sym, ◌∙◌}
+use Rattle.condition_script.proofs.Asked.{lone_read, not_lone}
 use Rattle.condition_script.proofs.asking.lone_mark.Goals as goal
 
-pub returns-then-words-eq1 : goal.returns-then-words-eq1
-returns-then-words-eq1 c = lone_read c.args.words.now c.index-words-0.result c.of.result c.if-words-eq1.true c.index-words-0.is c.of.ensures
+pub returns-then-is_empty : goal.returns-then-is_empty
+returns-then-is_empty c = lone_read c.args.words.now c.in-Some.first.now c.in-Some.rest.now c.in-Some.ensures.cases.0 (sym c.is_empty.ensures ∙ c.if-is_empty.true) c.of.result c.of.ensures
+
+pub returns-else-is_empty : goal.returns-else-is_empty
+returns-else-is_empty c = not_lone c.args.words.now c.in-Some.first.now c.in-Some.rest.now c.in-Some.ensures.cases.0 (sym c.is_empty.ensures ∙ c.if-is_empty.false)
