@@ -3,7 +3,7 @@ import os
 import re
 from collections import Counter
 
-from board_model import GUEST, STARTED, SUSPENDED, number, words_of
+from board_model import CHANGES, GUEST, STARTED, STORES, SUSPENDED, number, words_of
 
 from . import judge
 from .all_orders import Program
@@ -157,6 +157,7 @@ class Case:
 
 # What one does by an operation that has numbers.
 DOES = {"ecall": "calls", "load": "loads", "store": "stores", "fetch": "fetches", "satp": "writes satp", "sie": "writes sie", "sstatus": "writes sstatus", "sfence": "does sfence", "tick": "ticks"}
+DOES |= {op: "stores" if op in STORES else "changes" for op in CHANGES}
 # How many different numbers are told of an actor, and how many lines of each.
 MOST_TOLD = 8
 

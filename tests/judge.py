@@ -112,8 +112,10 @@ def lacking(asked, steps):
 
 # The replies of each operation that is accepted, where it isn't done.
 REPLIES = {"ecall": ("ret", "waiting", "gone"), "load": ("value", "fault"), "store": ("done", "fault"), "fetch": ("value", "fault"), "sip": ("value",), "poll": ("ret",), "serve": ("served",), "advance": ("entry", "moved", "ret")}
+REPLIES |= {op: REPLIES["store" if op in board_model.STORES else "load"] for op in board_model.CHANGES}
 # The causes of faults, by the access: misaligned, outside of the RAM, not allowed by the page tables.
 CAUSES = {"fetch": (0, 1, 12), "load": (4, 5, 13), "store": (6, 7, 15)}
+CAUSES |= dict.fromkeys(board_model.CHANGES, CAUSES["store"])
 # The numbers that can stand in a reply, where not any can: errors are 0 or below, and a hart moves without an entry or a return to STOPPED,
 # SUSPENDED or RESUME_PENDING. And those of one operation: a fence call and a suspend return 0, and sip reads SSIP and STIP.
 NUMBERS = {("ret", 0): range(-8, 1), ("moved", 0): (1, 4, 6), ("fault", 0): sum(CAUSES.values(), ()), ("sstatus", 0): (0, 1)}

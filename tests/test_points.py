@@ -2,6 +2,8 @@
 import os
 import re
 
+from board_model import access_of
+
 from . import all_orders, judge, random_programs, replays
 from .expected_points import Case
 from .fixtures import PROGRAM, TESTER, Test, must, ran, read, tester, told, told_of, write
@@ -137,7 +139,7 @@ def stale_lines(text):
 def why_stale(before, board, actor, op):
     hart = before.harts[actor]
     is_kept = board.used is not None and any(item[1] == board.used for item in hart.tlb)
-    if is_kept and before.is_other(hart.satp, op[0], op[1], board.used):
+    if is_kept and before.is_other(hart.satp, *access_of(op), board.used):
         return "a walk gives another translation"
     return "memory has another word"
 
