@@ -2,6 +2,7 @@
 and counts that many threads keep."""
 import itertools
 import os
+import random
 import re
 
 from board_model import CHANGES, STORES
@@ -12,6 +13,8 @@ from .random_programs import EDGES
 from .test_empty_verdicts import in_way
 from .test_explore import outcomes_told
 
+# How many random pairs of words each operation has.
+RANDOM = 40
 # Of each example which of its conditions hold in all orders, and how many orders, states and steps it has.
 SHOWN = {
     "spin-lock.program": ("11111", 120, 41, 60), "lost-update.program": ("011", 4, 18, 19), "atomic-count.program": ("1111", 4, 13, 15),
@@ -70,11 +73,17 @@ def by_the_judge(text):
     return "".join("01"[is_good(it) and says(it)] for it in asked)
 
 
-def edges():
-    """For each operation, at each place of a word that it can have, each pair of an old word and an operand of `EDGES`: a store of the
-    old word, the operation, and a load. A compare-and-swap is done with what is there, and with what mostly isn't."""
+def pairs():
+    """Old words and operands: each two of `EDGES`, and random ones."""
+    some = random.Random(1)
+    return [*itertools.product(EDGES, EDGES), *((some.getrandbits(64), some.getrandbits(64)) for _ in range(RANDOM))]
+
+
+def on_pairs():
+    """For each operation, at each place of a word that it can have, each pair: a store of the old word, the operation, and a load. A
+    compare-and-swap is done with what is there, and with what mostly isn't."""
     for name, (size, _) in CHANGES.items():
-        for at, old, operand in itertools.product(range(0, 8, size), EDGES, EDGES):
+        for at, (old, operand) in itertools.product(range(0, 8, size), pairs()):
             for numbers in ([old, operand], [operand, old]) if name == "amocas" else ([operand],):
                 yield f"0 store 0x80000100 {old:#x}"
                 yield f"0 {name} {0x80000100 + at:#x} {' '.join(map(hex, numbers))}"
@@ -111,8 +120,8 @@ class Amos(Test):
     programs = (PROGRAM, TESTER)
 
     def test_amos_at_the_edges_of_their_numbers(self):
-        """Each function on 8 bytes and on each half, each compare-and-swap, and each store of a part, at the edges of signs and carries."""
-        steps = [*edges()]
+        """Each function on 8 bytes and on each half, each compare-and-swap, and each store of a part, at the edges of signs and carries, and at random."""
+        steps = [*on_pairs()]
         text = "\n".join(["board 1 1 100000 0 0x80000000 0x0", "0 advance", *steps]) + "\n"
         wanted = replays.printed(text)
         found = ran(["replay", script(self.room, text.encode())])
@@ -120,7 +129,7 @@ class Amos(Test):
             must(f"{one!r}, not {other!r}", one == other)
         must_be(found, 0, "".join(it + "\n" for it in wanted).encode(), b"")
         # (18 functions at 27 places, two ways to compare, and stores at 14 places)
-        must(f"{len(steps)} steps", len(steps) == 3 * len(EDGES) ** 2 * (27 + 2 + 14))
+        must(f"{len(steps)} steps", len(steps) == 3 * (len(EDGES) ** 2 + RANDOM) * (27 + 2 + 14))
 
     def test_what_the_examples_of_amos_show(self):
         """Of each example each condition holds in all orders, or fails, as its comments say, and there are as many orders; so it is by the judge."""
