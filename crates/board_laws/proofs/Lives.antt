@@ -4,6 +4,8 @@ use Rattle.std.specs.Prelude.{◌⊎◌, unwrap_or}
 use Rattle.std.specs.List.{Contains}
 use Rattle.std.proofs.lemmas.List.Elements.{All-weaker}
 use Rattle.sv39.specs.declared.cause.Cause.{Cause}
+use Rattle.amo.specs.Amos.{amo_size}
+use Rattle.amo.specs.Parts.{word_at}
 use Rattle.tlb_model.specs.declared.entry.Address.{Address}
 use Rattle.tlb_model.specs.declared.word.FetchWord.{FetchWord}
 use Rattle.tlb_model.specs.Acts.{Fill, WasFilled}
@@ -21,8 +23,6 @@ use Rattle.board_core.specs.Opening.{Opening, place_after, tlb_at, words_at}
 use Rattle.board_terms.specs.declared.op.Actor.{Actor}
 use Rattle.board_terms.specs.declared.op.Actor.TheVariants.{Hart}
 use Rattle.board_terms.specs.declared.op.Op.{Op}
-use Rattle.amo.specs.Amos.{amo_size}
-use Rattle.amo.specs.Parts.{word_at}
 use Rattle.board_terms.specs.declared.op.Op.TheVariants.{Load, Store, Fetch, Amo}
 use Rattle.board_terms.specs.declared.reply.Refusal.{Refusal}
 use Rattle.board_terms.specs.declared.reply.Reply.{Reply}
