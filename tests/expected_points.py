@@ -6,7 +6,7 @@ from collections import Counter
 from board_model import GUEST, STARTED, SUSPENDED, number, words_of
 
 from . import judge
-from .all_orders import Program
+from .all_orders import READING, Program
 from .fixtures import must, read
 from .judge import Followed, NoOrder, Verdicts, broken_at
 from .replays import spelled
@@ -291,7 +291,7 @@ def take_findings(case, told):
 
 def take_outcomes(case, told, are_all):
     """Each outcome, with how many orders have it; and with how many states, where states are told apart as by the model."""
-    if not any(op[0] in ("load", "fetch") for _, op, _ in case.verdicts.steps):
+    if not any(op[0] in READING for _, op, _ in case.verdicts.steps):
         return
     wanted = case.orders.outcomes
     told.take(f"# outcomes: {len(wanted)}")
