@@ -279,6 +279,4 @@ class NoMisfits(Test):
                 seen |= {(words[1], answer[0], it) for it in answer[1:]} | {(answer[0], place, it) for place, it in enumerate(answer[1:])}
                 many += 1
         wanted = {(*key, it) for key, numbers in judge.OF_OPERATION.items() for it in numbers} | {(*key, it) for key, numbers in judge.NUMBERS.items() if key[0] in ("moved", "fault") for it in numbers}
-        # (a store of one byte is never misaligned)
-        wanted.remove(("store1", "fault", 6))
         must(f"{wanted - seen}", many > 4000 and wanted <= seen)

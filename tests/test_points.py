@@ -384,8 +384,10 @@ class Points(Test):
             write(os.path.join(self.room, "a.program"), TWO_ENDS.format(address))
             lines = tester(self.room, "a.program", name="sbiboard explore", timeout=200).stdout.splitlines()
             must(f"{lines}", sorted(it for it in lines if it.startswith("#   ")) == wanted and f"# outcomes: {len(wanted)}" in lines)
-        # (a load and a fetch that fail give the number of their cause)
-        for op, wanted in (("load 0x80000001", "fault-4"), ("load 0x1000", "fault-5"), ("fetch 0x80000001", "fault-0"), ("fetch 0x1000", "fault-1"), ("load 0x80000ff8", "0x0"), ("fetch 0x80000ff8", "0x0")):
+        # (a load, a fetch and an AMO that fail give the number of their cause)
+        reading = ("load 0x80000001", "fault-4"), ("load 0x1000", "fault-5"), ("fetch 0x80000001", "fault-0"), ("fetch 0x1000", "fault-1"), ("load 0x80000ff8", "0x0"), ("fetch 0x80000ff8", "0x0")
+        changing = ("amoadd 0x80000004 1", "fault-6"), ("amoswap.w 0x1000 1", "fault-7"), ("amocas 0x80000ff8 0 1", "0x0"), ("amoor.w 0x80000ffc 1", "0x0")
+        for op, wanted in reading + changing:
             write(os.path.join(self.room, "a.program"), f"board 1 1 9 0 0x80000000 0\nat 0x80000000\n{op}\n")
             lines = tester(self.room, "a.program", name="sbiboard explore").stdout.splitlines()
             must(f"{op}: {lines}", f"#   0:3={wanted} quiet: 1 states, 1 orders" in lines)

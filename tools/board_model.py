@@ -30,8 +30,6 @@ CHANGES = {name: (8, function) for name, function in FUNCTIONS.items()} | {f"{na
 CHANGES["amocas"] = (8, lambda old, expected, value, size: value if old == expected else old)
 STORES = {"store1": 1, "store2": 2, "store4": 4}
 CHANGES |= {name: (size, lambda old, value, size: value) for name, size in STORES.items()}
-# What reads memory.
-READS = ("load", "fetch", *(name for name in CHANGES if name not in STORES))
 GUEST = ("ecall", "load", "store", "fetch", *CHANGES, "satp", "sie", "sstatus", "sip", "clearssip", "sfence", "fencei", "wfi")
 DONE, WAITING, GONE = ("done",), ("waiting",), ("gone",)
 # The step without an actor: the history is cut, and its events are counted anew.

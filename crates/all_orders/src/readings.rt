@@ -58,9 +58,9 @@ impl Readings {
     }
 }
 
-/// What a load, a fetch or an AMO gave.
+/// What an operation gave that reads the memory.
 fn given_by(event: &Event) -> Option<Given> {
-    if !reads(event.op()) {
+    if !is_reading(event.op()) {
         return None;
     }
     match event.reply() {
@@ -70,8 +70,8 @@ fn given_by(event: &Event) -> Option<Given> {
     }
 }
 
-/// Whether an operation reads memory.
-fn reads(op: Op) -> bool {
+/// Whether an operation reads the memory.
+fn is_reading(op: Op) -> bool {
     match op {
         Op::Load(_) | Op::Fetch(_) => true,
         Op::Amo(_, amo) => amo.reads(),
