@@ -17,7 +17,7 @@ def signed(value, size):
     return value - (value >> 8 * size - 1 << 8 * size)
 
 
-# What AMOs make of the old value and their operand, on so many bytes (unprivileged ISA, A).
+# What AMOs make of the old value and their operand, on so many bytes (unprivileged ISA 8.4).
 FUNCTIONS = {
     "amoswap": lambda old, value, size: value, "amoadd": lambda old, value, size: old + value, "amoand": lambda old, value, size: old & value,
     "amoor": lambda old, value, size: old | value, "amoxor": lambda old, value, size: old ^ value,
@@ -309,7 +309,7 @@ class Board:
     def change(self, h, name, va, *numbers):
         """An AMO, a compare-and-swap, or a store of 1, 2 or 4 bytes."""
         size, makes = CHANGES[name]
-        kind = "store" if name in STORES else "amo"
+        kind, word_at = access_of((name, va))
         if va % size:
             return ("fault", MISALIGNED[kind])
         low, mask = 8 * (va % 8), (1 << 8 * size) - 1
@@ -321,7 +321,7 @@ class Board:
             self.ram[pa] = word & ~(mask << low) | made << low
             return DONE if name in STORES else ("value", signed(old, size) & ALL)
 
-        return self.access(h, kind, va - va % 8, change)
+        return self.access(h, kind, word_at, change)
 
     def do_fetch(self, h, va):
         return self.access(h, "fetch", va, lambda pa: ("value", self.word(h, pa)))
@@ -506,6 +506,13 @@ def is_valid(va, width):
 
 def is_in(va, entry):
     return entry[0] <= va < entry[0] + (4096 << 9 * entry[1])
+
+
+def access_of(op):
+    """The kind of an operation's access, and the address of the word that it reads or writes; None if it is no access."""
+    if op[0] in CHANGES:
+        return "store" if op[0] in STORES else "amo", op[1] - op[1] % 8
+    return op[:2] if op[0] in ("load", "store", "fetch") else None
 
 
 def allows(entry, kind):
