@@ -14,7 +14,7 @@ pub(crate) struct Written {
 }
 
 /// The word that an event writes, as the board has it before. None: it writes none, or is a cold reboot.
-pub(crate) fn written(view: &View<'_>, event: &Event) -> Option<Written>
+pub(crate) fn written_by(view: &View<'_>, event: &Event) -> Option<Written>
     ensures { SaysWritten view.now.opening view.now.past event.now result }
 {
     match place_of(event) {

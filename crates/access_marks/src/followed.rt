@@ -20,7 +20,7 @@ ghost use Rattle.access_marks.specs.Inside.Following.{IsNext};
 ghost use Rattle.access_marks.specs.Inside.Words.{AreNoted};
 ghost use Rattle.access_marks.specs.Marks.{IsMarkedAs, IsMarkedStep};
 
-use crate::changes::{Written, changed, written};
+use crate::changes::{Written, changed, written_by};
 use crate::effects::{effect_of, is_quiet, satps};
 use crate::marks::Marks;
 use crate::taking::takes;
@@ -210,7 +210,7 @@ impl Followed {
             mut notes,
         } = self;
         let effect = effect_of(&board, event);
-        let word = written(&board.view(), event);
+        let word = written_by(&board.view(), event);
         if !takes(&mut board, event) {
             return Ok(None);
         }

@@ -34,10 +34,10 @@ invariant_of-result c =
     let tracks = subst (λ (b : Course). (event : Event) (past : List Event) (addresses : List HartAddress) → b.past ≡ event ∷ past → event.op ≡ c.op.result
     → ((h : ℕ) → effect_on c.effect_of-effect.result h ≡ effect_at b.opening past event h) → IsTracking b.opening past addresses tracker → IsTracking b.opening (event ∷ past) addresses after)
     grew c.in_ok-tracker.ensures event b.past (addresses_of tracker) refl (sym c.op.ensures) c.effect_of-effect.ensures c.self.invariant.0 in
-    let notes = subst (λ (b : Course). (event : Event) (past : List Event) → b.past ≡ event ∷ past → SaysWritten b.opening past event c.written-word.result
+    let notes = subst (λ (b : Course). (event : Event) (past : List Event) → b.past ≡ event ∷ past → SaysWritten b.opening past event c.written_by-word.result
     → ((h : ℕ) → effect_on c.effect_of-effect.result h ≡ effect_at b.opening past event h) → AreNoted b.opening past c.self.inside.notes.items → AreNoted b.opening (event ∷ past) c.note.new.notes.items)
     grew c.in_ok-note.ensures event b.past refl
-    (subst (λ (b : Course). SaysWritten b.opening b.past event c.written-word.result) c.view.ensures c.written-word.ensures) c.effect_of-effect.ensures c.self.invariant.1 in (
+    (subst (λ (b : Course). SaysWritten b.opening b.past event c.written_by-word.result) c.view.ensures c.written_by-word.ensures) c.effect_of-effect.ensures c.self.invariant.1 in (
       subst (λ (b : Course). IsTracking b.opening b.past (addresses_of after) after) (sym grew) (of-own b.opening (event ∷ b.past) (addresses_of tracker) after tracks),
       subst (λ (b : Course). AreNoted b.opening b.past c.note.new.notes.items) (sym grew) notes,
     )
