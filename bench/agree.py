@@ -25,6 +25,11 @@ SATP = [8 << 60 | asid << 44 | 0x80001 for asid in (5, 5, 6)]
 # Bits of leaves, mostly good ones, and some flags of pointers.
 LEAF = [0xC7, 0xCF, 0xCF, 0xE7, 0xEF, 0xC3, 0xCB, 0x47, 0x87, 0xD7, 0xC5, 0x4B, 0]
 POINTER = [1, 1, 1, 0x21, 0x301, 0x11, 0x41, 0x81]
+# What changes a part of a word in one step, with its bytes.
+FUNCTIONS = ("swap", "add", "and", "or", "xor", "min", "max", "minu", "maxu")
+CHANGES = {f"amo{it}{width}": size for it in FUNCTIONS for width, size in (("", 8), (".w", 4))} | {"amocas": 8, "store1": 1, "store2": 2, "store4": 4}
+# The largest positive numbers and the smallest negative ones of 4 bytes, in each half, and of 8; -1; and 0.
+EDGES = (0, 1, 0x7FFFFFFF, 0x80000000, 0xFFFFFFFF, 0x7FFFFFFF_FFFFFFFF, 0x80000000_00000000, 0x80000000_7FFFFFFF, 0x7FFFFFFF_80000000, ALL)
 SIZES = [0, 1, 2, 0xFFF, 0x1000, 0x1001, 0x2000, 0x200000, 0x40000000, ALL - 0xFFF, ALL - 1, ALL]
 
 
@@ -90,9 +95,16 @@ class Maker:
         return frame << 10 | self.any.choice(LEAF)
 
     def access(self):
-        name = self.any.choice(["load", "load", "fetch", "store"])
-        value = [self.any.randrange(256)] if name == "store" else []
-        self.add(self.hart(), name, self.address(), *value)
+        name = self.any.choice(["load", "load", "load", "fetch", "fetch", "store", "store", *["change"] * 3])
+        va, count = self.address(), int(name == "store")
+        if name == "change":
+            name = self.any.choice([*CHANGES])
+            va, count = va + self.any.randrange(0, 8, CHANGES[name]) & ALL, 1 + (name == "amocas")
+        numbers = [self.any.choice([*EDGES, *EDGES, self.any.randrange(256), self.any.getrandbits(64)]) for _ in range(count)]
+        if name == "amocas" and self.any.random() < 0.5:
+            # (what most words are at first)
+            numbers[0] = 0
+        self.add(self.hart(), name, va, *numbers)
 
     def map(self):
         """A hart writes an entry of a page table, by physical addresses."""

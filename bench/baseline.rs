@@ -20,6 +20,8 @@
 //! `orders FILE TIMES JOBS` does what `sbiboard test` does with the program of `bench/orders.py`: it tries so many orders on so
 //! many threads, judges three conditions and counts the different records; each on a new board, and each step as likely.
 
+#[path = "baseline/amo.rs"]
+mod amo;
 #[path = "baseline/board.rs"]
 mod board;
 #[path = "baseline/explore.rs"]

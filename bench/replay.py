@@ -1,7 +1,7 @@
 #!/usr/bin/env python3
 """Times the program beside plain Rust, and prints the table of docs/SPEED.md.
 
-usage: bench/replay.py [--runs N] [--instructions] [--whole] [--tasks replay,check] [--workloads NAME,..]
+usage: bench/replay.py [--runs N] [--instructions|--branches] [--whole] [--tasks replay,check] [--workloads NAME,..]
                        [--harts N,..] [--lines N,..] [PROGRAM]
 
 PROGRAM is a built `sbiboard` (default: the one that `./sbiboard` builds); plain Rust is `bench/baseline.rs`, which
@@ -23,10 +23,12 @@ workloads of longer lines end at 500,000 lines, and of a longer trace the lines 
 Plain Rust keeps an event in 32 bytes, and its numbers in a list beside it; with --whole in 80 with its numbers, as a
 history does that hands out events by reference, which the program's is.
 --instructions counts instructions by valgrind in the place of time, in some minutes: a busy machine doesn't change them.
+--branches counts branches that cachegrind's model of a processor mispredicts, conditional and indirect ones.
 """
 import argparse
 import filecmp
 import os
+import random
 import re
 import shutil
 import subprocess
@@ -142,6 +144,37 @@ def accesses(harts, lines):
             yield f"{hart} sfence {page:#x} -"
 
 
+def many_fills(harts, lines):
+    """Two harts load, store and fetch at random in 96 pages, fence, and write satp: what comes next can't be foreseen."""
+    rng = random.Random(96)
+    first, *others = mapped(2, lines)
+    yield first.replace(" 16 ", " 112 ", 1)
+    yield from others
+    for page in range(32, 96):
+        yield f"0 store {0x80003000 + 8 * page:#x} {(0x80010 + page) << 10 | 0xCF:#x}"
+    while True:
+        hart, va = rng.randrange(2), rng.randrange(96) << 12 | 8 * rng.randrange(512)
+        op = rng.choice(("load", "load", "load", "store", "fetch", "sfence", "satp"))
+        if op == "store":
+            # (not to a page that has tables)
+            yield f"{hart} store {(32 + rng.randrange(64)) << 12 | va % 4096:#x} {rng.getrandbits(64):#x}"
+        elif op == "sfence":
+            yield f"{hart} sfence {rng.choice((f'{va:#x}', '-'))} {rng.choice(('5', '6', '-'))}"
+        elif op == "satp":
+            yield f"{hart} satp {8 << 60 | rng.choice((5, 6)) << 44 | 0x80001:#x}"
+        else:
+            yield f"{hart} {op} {va:#x}"
+
+
+def amos(harts, lines):
+    """The harts in turn do AMOs on 8 and 4 bytes of a page, which their TLBs have."""
+    yield from mapped(harts, lines)
+    for turn in count():
+        hart, va = turn % harts, 0x3000 | turn % 512 * 8
+        yield f"{hart} amoadd {va:#x} {turn:#x}"
+        yield f"{hart} amoor.w {va | 4:#x} {1 << turn % 31:#x}"
+
+
 def stores(harts, lines):
     """The harts in turn store to 8 pages, which their TLBs have."""
     yield from mapped(harts, lines)
@@ -205,7 +238,9 @@ WORKLOADS = (
     (loads_that_walk, 500_000),
     (loads_that_walk_under_sv48, 500_000),
     (accesses, 500_000),
+    (many_fills, 500_000),
     (stores, 500_000),
+    (amos, 300_000),
     (fences_and_loads, 500_000),
     (full_fences, 1_000_000),
     (crossing_fences, 100_000),
@@ -289,6 +324,13 @@ def instructions(program, task, path):
     return int(re.search(r"Collected : (\d+)", said).group(1))
 
 
+def mispredicted(program, task, path):
+    """How many branches of a run are mispredicted."""
+    command = ["valgrind", "--tool=cachegrind", "--branch-sim=yes", "--cachegrind-out-file=/dev/null", program, task, path]
+    said = subprocess.run(command, stdout=subprocess.DEVNULL, stderr=subprocess.PIPE, text=True, check=True).stderr
+    return int(re.search(r"Mispredicts: +([0-9,]+)", said).group(1).replace(",", ""))
+
+
 # ---- tables
 
 
@@ -300,13 +342,15 @@ def times_cells(found, lines):
     return speeds + [f"{own_huge / plain_huge:.2f}"] + peaks
 
 
-def instructions_cells(programs, task, path, lines):
-    own, plain = (instructions(program, task, path) / lines for program in programs)
-    return [f"{own:,.0f}", f"{plain:,.0f}", f"{own / plain:.2f}"]
+def counted_cells(counted, programs, task, path, lines):
+    own, plain = (counted(program, task, path) / lines for program in programs)
+    digits = 0 if counted is instructions else 1
+    return [f"{own:,.{digits}f}", f"{plain:,.{digits}f}", f"{own / plain:.2f}"]
 
 
 TIMES = ("lines a second", "with huge pages", "plain Rust", "with huge pages", "ratio", "peak bytes a line", "plain Rust")
 INSTRUCTIONS = ("instructions a line", "plain Rust", "ratio")
+BRANCHES = ("mispredicted branches a line", "plain Rust", "ratio")
 
 
 def sizes(most, chosen):
@@ -333,12 +377,12 @@ def rows_of(programs, folder, chosen):
 
 def print_rows(programs, folder, chosen):
     rows = list(rows_of(programs, folder, chosen))
-    heads = INSTRUCTIONS if chosen.instructions else TIMES
+    counted, heads = (instructions, INSTRUCTIONS) if chosen.instructions else (mispredicted, BRANCHES) if chosen.branches else (None, TIMES)
     print("| workload | task | harts | lines | " + " | ".join(heads) + " |")
     print("|---" * (4 + len(heads)) + "|")
-    times = None if chosen.instructions else fastest(programs, rows, chosen.runs)
+    times = None if counted else fastest(programs, rows, chosen.runs)
     for place, (first, task, path, count) in enumerate(rows):
-        cells = times_cells(times[place], count) if times else instructions_cells(programs, task, path, count)
+        cells = times_cells(times[place], count) if times else counted_cells(counted, programs, task, path, count)
         print("| " + " | ".join(first + cells) + " |", flush=True)
 
 
@@ -354,7 +398,9 @@ def options():
     parser = argparse.ArgumentParser(description="Times the program beside plain Rust, and prints the table of docs/SPEED.md.")
     parser.add_argument("program", nargs="?", default=BUILT)
     parser.add_argument("--runs", type=int, default=9, help="how many runs of each, of which the fastest counts")
-    parser.add_argument("--instructions", action="store_true", help="count instructions by valgrind, not time")
+    counting = parser.add_mutually_exclusive_group()
+    counting.add_argument("--instructions", action="store_true", help="count instructions by valgrind, not time")
+    counting.add_argument("--branches", action="store_true", help="count mispredicted branches by valgrind, not time")
     parser.add_argument("--whole", action="store_true", help="plain Rust keeps events of 80 bytes, with their numbers")
     parser.add_argument("--tasks", type=words, default=words("replay,check"), help="as replay,check (the default)")
     parser.add_argument("--workloads", type=words, help="as calls,full_fences (default: all)")
@@ -367,7 +413,7 @@ def main():
     chosen = options()
     if not os.path.exists(chosen.program):
         sys.exit(f"{chosen.program} isn't built: ./sbiboard builds it")
-    needed = ["rustc"] + ["valgrind"] * chosen.instructions
+    needed = ["rustc"] + ["valgrind"] * (chosen.instructions or chosen.branches)
     missing = [tool for tool in needed if not shutil.which(tool)]
     if missing:
         sys.exit(f"{' and '.join(missing)} not found")

@@ -3,10 +3,10 @@ import os
 import re
 from collections import Counter
 
-from board_model import GUEST, STARTED, SUSPENDED, number, words_of
+from board_model import CHANGES, GUEST, STARTED, STORES, SUSPENDED, number, words_of
 
 from . import judge
-from .all_orders import Program
+from .all_orders import READING, Program
 from .fixtures import must, read
 from .judge import Followed, NoOrder, Verdicts, broken_at
 from .replays import spelled
@@ -157,6 +157,7 @@ class Case:
 
 # What one does by an operation that has numbers.
 DOES = {"ecall": "calls", "load": "loads", "store": "stores", "fetch": "fetches", "satp": "writes satp", "sie": "writes sie", "sstatus": "writes sstatus", "sfence": "does sfence", "tick": "ticks"}
+DOES |= {op: "stores" if op in STORES else "changes" for op in CHANGES}
 # How many different numbers are told of an actor, and how many lines of each.
 MOST_TOLD = 8
 
@@ -291,7 +292,7 @@ def take_findings(case, told):
 
 def take_outcomes(case, told, are_all):
     """Each outcome, with how many orders have it; and with how many states, where states are told apart as by the model."""
-    if not any(op[0] in ("load", "fetch") for _, op, _ in case.verdicts.steps):
+    if not any(op[0] in READING for _, op, _ in case.verdicts.steps):
         return
     wanted = case.orders.outcomes
     told.take(f"# outcomes: {len(wanted)}")
@@ -432,7 +433,7 @@ def take_runs(case, told, point, folder, runs):
             continue
         name, is_some = re.escape(about(case, it) or f"{case.name}: no order ends stuck"), it is not None and it.word == "some"
         judged = r"(holds|fails) in (some of )?" + f"{runs:,} runs on threads" + r"(?:, of which the limit cut off [\d,]+)?"
-        found = told.match(rf"(not )?ok {point + at} - {name}: (?:{judged}|(vacuous: no step is '.*' in the {runs:,} runs.*|no order ends: the limit cut off all {runs:,}|the board has no hart \d+|no \w+(?:'s \w+)? has .*|no \w+ is .*))")
+        found = told.match(rf"(not )?ok {point + at} - {name}: (?:{judged}|(vacuous: no step is '.*' in the {runs:,} runs.*|no order ends: the limit cut off all {runs:,}|the board has no hart \d+|no [\w.]+(?:'s [\w.]+)? has .*|no [\w.]+ is .*))")
         if found[4]:
             failed += 1
             must(f"{found[0]}", found[1] and must_be_empty(case, it, found[4]))

@@ -300,6 +300,13 @@ c advance
 0 clearssip
 1 store 0x80000008 0x22
 1 store 0x80000004 0
+1 amoadd 0x80000008 0
+1 amocas 0x80000008 0 1
+1 amomin.w 0x80000004 1
+1 store1 0x80000007 1
+1 store2 0x80000007 1
+1 store4 0x80000004 1
+1 amoswap 0x80000004 0
 1 load 0x80000008
 1 load 0
 1 fetch 0x80000008

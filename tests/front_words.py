@@ -27,6 +27,7 @@ UNWANTED = (
     (["run", "none"], 7, FAILED_IO), (["replay", "none"], 7, FAILED_IO), (["check", "none"], 7, FAILED_IO), (["replay", "."], 7, FAILED_IO), (["check", ""], 7, FAILED_IO),
     (["run", "--keep", "./a.program", "a.program"], 7, FAILED_IO), (["replay", "a.sched/x"], 7, FAILED_IO),
     (["test", "a.sched", "none"], 1, "sbiboard: none: no such file\n" + UNBUILT), (["test", "."], 1, "sbiboard: .: is a directory\n" + UNBUILT),
+    (["test", "--html", "a.trace", "a.sched"], 7, "sbiboard: a.trace: not a folder\n" + UNBUILT), (["explore", "a.program", "--html", "a.trace/b/c"], 7, "sbiboard: a.trace/b/c: a.trace is not a folder\n" + UNBUILT),
     (["explore", "none", "a.program", "more"], 1, "sbiboard: none: no such file\nsbiboard: more: no such file\n" + UNBUILT), (["test", "a.sched/x"], 1, "sbiboard: a.sched/x: can't be read\n" + UNBUILT),
     (["run", "a.sched"], 1, WRONG_KIND), (["run", "a.trace"], 1, WRONG_KIND), (["replay", "a.trace"], 1, WRONG_KIND), (["replay", "a.program"], 1, WRONG_KIND),
     (["check", "a.sched"], 1, WRONG_KIND), (["check", "a.program"], 1, WRONG_KIND),

@@ -25,6 +25,8 @@ WIDTHS = widths()
 COUNTS = {
     "ecall": (2, 8), "load": (1, 1), "store": (2, 2), "fetch": (1, 1), "satp": (1, 1), "sie": (1, 1), "sstatus": (1, 1), "sip": (0, 0),
     "clearssip": (0, 0), "sfence": (2, 2), "fencei": (0, 0), "wfi": (0, 0), "poll": (0, 0), "serve": (0, 0), "advance": (0, 0), "tick": (1, 1),
+    **{f"amo{it}{width}": (2, 2) for width in ("", ".w") for it in ("swap", "add", "and", "or", "xor", "min", "max", "minu", "maxu")},
+    "amocas": (3, 3), "store1": (2, 2), "store2": (2, 2), "store4": (2, 2),
 }  # fmt: skip
 CLOCKS = {"tick"}
 FIRMWARES = {"poll", "serve", "advance"}

@@ -112,12 +112,30 @@ def lacking(asked, steps):
 
 # The replies of each operation that is accepted, where it isn't done.
 REPLIES = {"ecall": ("ret", "waiting", "gone"), "load": ("value", "fault"), "store": ("done", "fault"), "fetch": ("value", "fault"), "sip": ("value",), "poll": ("ret",), "serve": ("served",), "advance": ("entry", "moved", "ret")}
+REPLIES |= {op: REPLIES["store" if op in board_model.STORES else "load"] for op in board_model.CHANGES}
 # The causes of faults, by the access: misaligned, outside of the RAM, not allowed by the page tables.
 CAUSES = {"fetch": (0, 1, 12), "load": (4, 5, 13), "store": (6, 7, 15)}
+CAUSES |= dict.fromkeys(board_model.CHANGES, CAUSES["store"])
 # The numbers that can stand in a reply, where not any can: errors are 0 or below, and a hart moves without an entry or a return to STOPPED,
 # SUSPENDED or RESUME_PENDING. And those of one operation: a fence call and a suspend return 0, and sip reads SSIP and STIP.
 NUMBERS = {("ret", 0): range(-8, 1), ("moved", 0): (1, 4, 6), ("fault", 0): sum(CAUSES.values(), ()), ("sstatus", 0): (0, 1)}
 OF_OPERATION = {("poll", "ret"): (0,), ("advance", "ret"): (0,), ("sip", "value"): (0, 2, 32, 34), **{(op, "fault"): causes for op, causes in CAUSES.items()}}
+# (a store of 1 byte is aligned at each address)
+OF_OPERATION["store1", "fault"] = (7, 15)
+
+
+class SignExtended:
+    """The numbers that are 4 bytes sign-extended to 8, of which the first and the last ones are listed."""
+
+    def __contains__(self, number):
+        return number < 1 << 31 or number >= (1 << 64) - (1 << 31)
+
+    def __iter__(self):
+        return iter((0, (1 << 31) - 1, (1 << 64) - (1 << 31), (1 << 64) - 1))
+
+
+# An AMO on 4 bytes gives no others.
+OF_OPERATION |= {(op, "value"): SignExtended() for op in board_model.CHANGES if op.endswith(".w")}
 
 
 def misfit(asked, harts):

@@ -1,7 +1,7 @@
 """Small random programs, on boards of all kinds, and random conditions about their steps. A seed makes one program."""
 import random
 
-from board_model import ALL, BASE, FAILED, HSM, IPI, RAM, RFENCE, SRST, TIME
+from board_model import ALL, BASE, CHANGES, FAILED, HSM, IPI, RAM, RFENCE, SRST, TIME
 
 from .grammar import COUNTS, REPLIES
 from .judge import step_words
@@ -15,6 +15,10 @@ MOST_CONDITIONS = 12
 ENDS = ("off", "history-full", "quiet", "stuck")
 NAMES = {"step": tuple(COUNTS), "reply": tuple(it for it in REPLIES if it != "refused")}
 MOST_WORDS = {**{name: most for name, (_, most) in COUNTS.items()}, **REPLIES}
+# The largest positive numbers and the smallest negative ones of 4 bytes, in each half, and of 8; their neighbours; -1; and 0.
+EDGES = (0, 1, 0x7FFFFFFF, 0x80000000, 0xFFFFFFFF, 0x7FFFFFFF_FFFFFFFF, 0x80000000_00000000, 0x80000000_7FFFFFFF, 0x7FFFFFFF_80000000, ALL)
+# Operations on words of memory; those that change a part of one come as often as stores.
+ACCESSES = ("load", "load", "load", "fetch", "store", *["change"] * 3)
 
 
 def spelled(some, number):
@@ -25,6 +29,11 @@ def spelled(some, number):
 def any_number(some):
     """Numbers of all sizes."""
     return some.choice([0, 1, 2, 3, 5, 0x11, 1 << 32, (1 << 32) + 1, 1 << 63, ALL, ALL - 1, some.getrandbits(64)])
+
+
+def any_word(some):
+    """Words of memory, and operands of AMOs: mostly those at which signs and carries of 4 and of 8 bytes part."""
+    return some.choice([*EDGES, *EDGES, any_number(some), some.getrandbits(32)])
 
 
 class Maker:
@@ -98,12 +107,20 @@ class Maker:
     def address(self):
         some = self.some
         last = RAM + PAGE * (self.pages - 1)
-        return some.choice([last, last, last + 8, last + 8, last + PAGE, last + 4, 0x1000, 0, ALL - 7])
+        return some.choice([last, last, last, last + 8, last + 8, last + PAGE, last + 4, 0x1000, 0, ALL - 7])
 
-    def access(self):
+    def access(self, va=None):
+        """An operation on a word of memory, at this address or at any."""
         some = self.some
-        name = some.choice(["load", "load", "load", "store", "store", "fetch"])
-        return self.written(name, self.address(), *([any_number(some)] if name == "store" else []))
+        va, name = self.address() if va is None else va, some.choice(ACCESSES)
+        if name == "change":
+            name = some.choice([*CHANGES])
+            va += some.choice([0, some.randrange(0, 8, CHANGES[name][0]), some.randrange(0, 8, CHANGES[name][0]), some.randrange(8)])
+        numbers = [any_word(some) for _ in range(COUNTS[name][0] - 1)]
+        if name == "amocas" and some.random() < 0.5:
+            # (what most words are at first)
+            numbers[0] = 0
+        return self.written(name, va & ALL, *numbers)
 
     def satp(self, root, mode=None):
         mode = self.some.choice([8, 8, 9, 0, 1]) if mode is None else mode
@@ -122,9 +139,7 @@ class Maker:
         return lines
 
     def used(self):
-        some = self.some
-        va = some.choice([0x1000, 0x1008, 0x1000])
-        return some.choice([self.written("load", va), self.written("load", va), self.written("fetch", va), self.written("store", va, any_number(some))])
+        return self.access(self.some.choice([0x1000, 0x1008, 0x1000]))
 
     def fence(self):
         some = self.some

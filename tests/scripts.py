@@ -55,6 +55,7 @@ NUMBERS = """
 OPERATIONS = [
     ("ecall 1 2 3 4 5 6 7 8", 6), ("load 1", 0), ("store 1 2", 0), ("fetch 1", 0), ("satp 1", 0), ("sie 1", 0), ("sstatus 1", 0), ("sip", 0),
     ("clearssip", 0), ("sfence 1 2", 0), ("fencei", 0), ("wfi", 0), ("poll", 0), ("serve", 0), ("advance", 0), ("tick 1", 0),
+    ("amoswap 1 2", 0), ("amomaxu.w 1 2", 0), ("amocas 1 2 3", 0), ("store1 1 2", 0), ("store2 1 2", 0), ("store4 1 2", 0),
 ]  # fmt: skip
 REPLIES = ["ret -1 2", "waiting", "gone", "served", "done", "entry 1 2 3", "value 1", "fault 1", "moved 1", "refused 1"]
 
@@ -64,7 +65,7 @@ PLACES += [("at 1\n", ""), ("clock\n", ""), ("", ""), ("at 1\nclock\n", "")]
 
 # Words that aren't an operation's name, or nearly are.
 NAMES = """Ecall ecal ecalls ecall# load, loads lod sipp si SIP fence.i sfence.vma sret - -> c 0 at clock tick: board cut ret
-done ecalL wfI advanced serv pol stor ssip clearssi""".split()
+done ecalL wfI advanced serv pol stor ssip clearssi amo amoadd. amoadd.d amoadd.w. amocas.w Amocas store3 store8 store11""".split()
 
 
 def text(*lines):

@@ -7,7 +7,7 @@ import subprocess
 from .fixtures import ROOT, Test, must, must_have, read, shown, write
 
 PAGE = "docs/ADDING.md"
-KINDS = ("quiet", "extension", "operation", "mode", "number", "column")
+KINDS = ("quiet", "extension", "operation", "access", "mode", "number", "column")
 # Most words of the page.
 WORDS = 1_700
 

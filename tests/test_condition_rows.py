@@ -19,7 +19,8 @@ OPERATIONS = {
     "fetch": ENTERED + "0 fetch 0x80000000\n", "satp": ENTERED + "0 satp 0\n", "sie": ENTERED + "0 sie 0\n", "sstatus": ENTERED + "0 sstatus 0\n",
     "sip": ENTERED + "0 sip\n", "clearssip": ENTERED + "0 clearssip\n", "sfence": ENTERED + "0 sfence - -\n", "fencei": ENTERED + "0 fencei\n",
     "wfi": ENTERED + "0 sie 2\n0 ecall 0x735049 0 1 0\n0 wfi\n", "poll": ENTERED + "0 ecall 0x52464e43 0 0x1 0\n0 poll\n", "serve": ASKED + "1 serve\n",
-    "advance": ENTERED, "tick": "c tick 1\n",
+    "advance": ENTERED, "tick": "c tick 1\n", "amocas": ENTERED + "0 amocas 0x80000000 0 1\n",
+    **{it: ENTERED + f"0 {it} 0x80000000 1\n" for it in COUNTS if it.startswith("amo") and it != "amocas" or it in ("store1", "store2", "store4")},
 }  # fmt: skip
 
 # The same for each reply.
@@ -84,7 +85,7 @@ def asked_about(actor, op, answer):
     for place, word in enumerate(whole):
         if word != "->":
             found.append([*whole[:place], "_", *whole[place + 1 :]])
-        if word[-1].isdigit():
+        if word[0].isdigit() or word[1:].isdigit():
             other = str(int(word, 0) + 1)
             found += [[*whole[:place], other, *whole[place + 1 :]]]
     found += [["_", "_", *["_"] * many] for many in range(9)]

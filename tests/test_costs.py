@@ -80,6 +80,8 @@ ROUND = [
     ("0 clearssip", "done"), ("0 ecall 0x735049 0 0 0xffffffffffffffff", "ret 0 0x0"), ("0 clearssip", "done"), ("1 clearssip", "done"),
     ("0 sie 0", "done"), ("0 ecall 0x54494d45 0 0", "ret 0 0x0"), ("0 sip", "value 0x20"), ("0 ecall 0x54494d45 0 0xffffffffffffffff", "ret 0 0x0"),
     ("c tick 1", "done"), ("0 store 0x80000008 0x22", "done"), ("0 load 0x80000008", "value 0x22"), ("0 load 0", "fault 5"),
+    ("0 amoadd 0x80000008 0", "value 0x22"), ("0 amoor.w 0x8000000c 0", "value 0x0"), ("0 amocas 0x80000008 0 1", "value 0x22"),
+    ("0 store1 0x80000008 0x22", "done"), ("0 store2 0x80000009 0", "fault 6"), ("0 amoswap 0 1", "fault 7"),
     ("0 fetch 0x80000008", "value 0x22"), ("0 fetch 0x80000008", "value 0x22"), ("0 fencei", "done"), ("0 satp 0x8000000000080000", "done"),
     ("0 load 0x80000008", "value 0x22"), ("0 load 0x80000008", "value 0x22"), ("0 store 0x80000008 0x22", "done"), ("0 load 0x1000", "fault 13"),
     ("0 sfence 0x1000 5", "done"), ("0 sfence - -", "done"), ("0 satp 0", "done"), ("0 poll", "refused 2"), ("0 advance", "refused 2"),

@@ -18,7 +18,7 @@ ODD = (
     "0 sie 0x2#2", " \tc  tick 3 -> done\t# the clock", "0x7f sfence - 5", "1 sfence 0x1000 -", "cut", "cut -> done", "cut#", "0 poll -> ret -1 0x0", "#! before 1 serve, 1 load 0x1000 -> value 0x22",
     "#! never _ load 0x1000 -> value 0x11 after c tick # and no other", "#! maybe never 1 load 0x10 -> value 1", "#!maybe end quiet", "  #! end off history-full quiet stuck", "#!can end quiet off # in some order", "#! maybe can end", "#! each _ sfence - _ -> done", "#!/usr/bin/env sbiboard", "#!some 0 sip", "# a#b", "clock # ticks",
 )  # fmt: skip
-WRONG = (("0 ecal 0x10", "ecal"), ("laod 1", "laod"), ("0 sip -> valu 1", "valu"), ("0 load 0X10", "0X10"), ("bord 1", "bord"), ("#! nevr 1 load", "nevr"), ("#! never 1 laod", "laod"))
+WRONG = (("0 ecal 0x10", "ecal"), ("laod 1", "laod"), ("1 store8 1 2", "store8"), ("1 amoadd.d 1 2", "amoadd.d"), ("amoaddxw 1 2", "amoaddxw"), ("0 sip -> valu 1", "valu"), ("0 load 0X10", "0X10"), ("bord 1", "bord"), ("#! nevr 1 load", "nevr"), ("#! never 1 laod", "laod"))
 
 # What `sbiboard` writes, with the file, the line, the column (0: none) and the text that an editor makes of it.
 FAULTS = "TAP version 13\nok 1 - b.sched (3 lines)\n# line 3: stale: a walk gives another translation\n"
@@ -39,7 +39,7 @@ def words_of_formats():
     page = read(os.path.join(ROOT, "docs/FORMATS.md"))
     blocks = page.split("```")
     block = lambda begin: next(it for it in blocks if it.lstrip("\n").startswith(begin))
-    heads = lambda text: {word for line in re.findall(r"^(\S.*?)(?:  |$)", text, re.M) for word in re.findall(r"(?:^|, )([a-z]+)", line)}
+    heads = lambda text: {word for line in re.findall(r"^(\S.*?)(?:  |$)", text, re.M) for word in re.findall(r"(?:^|, )([a-z][a-z0-9.]*)", line)}
     rules = block("condition = #! ")
     ends = re.search(r"^END +=(.*)$", rules, re.M)[1].replace("|", " ").split()
     return heads(block("ecall EID")), heads(block("ret ERROR")), set(re.findall(r"^(?:rule +=| +\|) ([a-z]+)", rules, re.M)), set(ends)
@@ -156,7 +156,7 @@ def kind_of_scope(scope):
 def words_of_pattern(grammar, place, scope):
     """The words that a rule of the grammar lists."""
     rules = grammar["repository"][place].get("patterns", [grammar["repository"][place]])
-    return set(next(it for it in rules if it.get("name") == scope)["match"].split("(?:")[1].split(")")[0].split("|"))
+    return set(next(it for it in rules if it.get("name") == scope)["match"].split("(?:")[1].split(")")[0].replace("\\.", ".").split("|"))
 
 
 # ---- vim

@@ -77,10 +77,15 @@ MISFITS = (
     # (what a hart is brought to, and what calls return)
     ("never 1 advance -> moved 0", "no moved has 0"), ("never 1 advance -> moved 2", "no moved has 2"), ("some 1 _ -> moved 5", "no moved has 5"), ("never 0 poll -> ret -3", "no poll's ret has -3"), ("some 0 poll -> ret 0 1", "no poll's ret has 1"),
     ("never 0 advance -> ret _ 7", "no advance's ret has 7"), ("never 0 ecall -> ret 1", "no ret has 1"), ("never 0 ecall -> ret -9", "no ret has -9"), ("each 1 sip -> value 1", "no sip's value has 1"), ("never 1 sip -> value 0x20000", "no sip's value has 131072"),
+    # (an AMO reads, and its faults are a store's; a small store only writes)
+    ("never 1 amoadd 0x80002000 -> done", "no amoadd has the reply done"), ("each 0 amocas -> value -1", "no value has -1"), ("never 1 amoswap.w -> fault 13", "no amoswap.w's fault has 13"), ("never 1 amocas 0x80002000 - 1", "no amocas has -"),
+    ("never 1 store4 -> value 1", "no store4 has the reply value"), ("never 1 store2 -> fault 5", "no store2's fault has 5"), ("never 1 store1 -> fault 6", "no store1's fault has 6"), ("never c amoor", "no amoor is the clock's"),
+    ("never 1 amoadd.w -> value 0xffffffff", "no amoadd.w's value has 4294967295"), ("never 1 amomaxu.w -> value 0x80000000", "no amomaxu.w's value has 2147483648"), ("some 1 amomin.w -> value 0xffffffff7fffffff", "no amomin.w's value has 18446744071562067967"),
 )  # fmt: skip
 # And some of which each word can be there.
 FITTING = ("never 0 sstatus 1 -> done", "never 1 sfence - -", "never _ _ -> fault 15", "never 1 advance -> moved 6", "never 1 advance -> moved 1", "never 1 _ -> moved 4", "never 0 ecall -> ret -8", "never 0 ecall -> ret 0 9", "never 0 advance -> entry _ 1", "never 1 poll -> ret 0 0",
-    "never 0 advance -> ret 0", "never c tick", "never c _ -> done", "never _ tick", "never _ _ -> ret -8 3", "never 1 sip -> value 0x22", "never 0 _ -> value 1", *(f"never 1 {op} -> fault {cause}" for op, causes in (("load", (4, 5, 13)), ("store", (6, 7, 15)), ("fetch", (0, 1, 12))) for cause in causes))
+    "never 0 advance -> ret 0", "never c tick", "never c _ -> done", "never _ tick", "never _ _ -> ret -8 3", "never 1 sip -> value 0x22", "never 0 _ -> value 1", *(f"never 1 {op} -> fault {cause}" for op, causes in (("load", (4, 5, 13)), ("store", (6, 7, 15)), ("fetch", (0, 1, 12)), ("amoadd", (6, 7, 15)), ("amocas", (6, 7, 15)), ("store1", (7, 15)), ("store4", (6, 7, 15))) for cause in causes),
+    "never 1 amoadd.w -> value 0x7fffffff", "never 1 amoadd.w -> value 0xffffffff80000000", "never 1 amoadd -> value 0xffffffff", "never 1 amocas 0x80002000 0 1 -> value 0x80000000", "never 1 store1 0x80002001 1 -> done")
 
 # No order of it ends: hart 0 begins anew again and again. And one of which some order ends, and one that ends off.
 ENDLESS = "board 1 1 50 0 0x80000000 0\nat 0x80000000\necall 0x53525354 0 2 0\n"

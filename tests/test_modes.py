@@ -56,7 +56,10 @@ def random_step(some):
     actor, kind = str(some.randrange(2)), some.randrange(16)
     if kind < 9:
         va = random_address(some)
-        return [[actor, some.choice(("load", "load", "fetch")), f"{va:#x}"] if some.random() < 0.85 else [actor, "store", f"{va:#x}", "7"]]
+        if some.random() < 0.85:
+            return [[actor, some.choice(("load", "load", "fetch")), f"{va:#x}"]]
+        name, at = some.choice((("store", 0), ("amoadd", 0), ("amoxor.w", 4), ("amomin", 0), ("store1", 5), ("store4", 4), ("amomaxu.w", 0)))
+        return [[actor, name, f"{va + at:#x}", "7"]]
     if kind < 11:
         table, slot = some.randrange(1, 5), some.choice((0, 0, 1, 2, 255, 256, 511))
         return [["2", "store", f"{0x80000000 + 4096 * table + 8 * slot:#x}", f"{random_entry(some):#x}"]]

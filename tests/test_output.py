@@ -54,6 +54,7 @@ WRONG = (
     (OF_TRACE, "0 sip -> valu 1", 10, "unknown reply 'valu' (fault 3): did you mean 'value'?"), (OF_TRACE, "0 sip ->", 9, "behind the arrow a reply is wanted"),
     (PROGRAMS, "ecal 1 2", 1, "did you mean 'ecall'?"), (PROGRAMS, "poll", 1, "the firmware of a program does it by itself"), (PROGRAMS, "tick 1", 1, "'tick' stands in the block of the clock"), (PROGRAMS, "at 80001000", 4, "did you mean '0x80001000'?"),
     (PROGRAMS, "#! nevr 0 sip", 4, "unknown condition: 'nevr': did you mean 'never'?"), (PROGRAMS, "#! never 0 laod 1", 12, "unknown word: 'laod': did you mean 'load'?"), (PROGRAMS, "at 0x80000000", 4, "a second block of '0x80000000' (fault 7)"),
+    (PROGRAMS, "amoswp 0x80000000 1", 1, "unknown operation 'amoswp' (fault 3): did you mean 'amoswap'?"), (SCHEDULE, "1 stre1 0x80000000 1", 3, "did you mean 'store1'?"), (SCHEDULE, "1 stor 0x80000000 1", 3, "unknown operation 'stor' (fault 3): did you mean 'store'?"), (PROGRAMS, "#! never 0 amoadd.W", 12, "did you mean 'amoadd.w'?"),
 )  # fmt: skip
 # A line without a fault, of each kind.
 RIGHT = {SCHEDULE: "0 sip", OF_TRACE: "0 sip -> value 0x0", PROGRAMS: "at 0x80000000\nsip"}

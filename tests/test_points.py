@@ -2,6 +2,8 @@
 import os
 import re
 
+from board_model import access_of
+
 from . import all_orders, judge, random_programs, replays
 from .expected_points import Case
 from .fixtures import PROGRAM, TESTER, Test, must, ran, read, tester, told, told_of, write
@@ -137,7 +139,7 @@ def stale_lines(text):
 def why_stale(before, board, actor, op):
     hart = before.harts[actor]
     is_kept = board.used is not None and any(item[1] == board.used for item in hart.tlb)
-    if is_kept and before.is_other(hart.satp, op[0], op[1], board.used):
+    if is_kept and before.is_other(hart.satp, *access_of(op), board.used):
         return "a walk gives another translation"
     return "memory has another word"
 
@@ -382,12 +384,12 @@ class Points(Test):
             write(os.path.join(self.room, "a.program"), TWO_ENDS.format(address))
             lines = tester(self.room, "a.program", name="sbiboard explore", timeout=200).stdout.splitlines()
             must(f"{lines}", sorted(it for it in lines if it.startswith("#   ")) == wanted and f"# outcomes: {len(wanted)}" in lines)
-        # (a load and a fetch that fail give the number of their cause)
+        # (a load, a fetch and an AMO that fail give the number of their cause)
         pages = "satp 0x8000000000080000\n"
-        for op, wanted in (
-            ("load 0x80000001", "fault-4"), ("load 0x1000", "fault-5"), ("fetch 0x80000001", "fault-0"), ("fetch 0x1000", "fault-1"), ("load 0x80000ff8", "0x0"), ("fetch 0x80000ff8", "0x0"),
-            (pages + "load 0x1000", "fault-13"), (pages + "fetch 0x1000", "fault-12"),
-        ):  # fmt: skip
+        reading = ("load 0x80000001", "fault-4"), ("load 0x1000", "fault-5"), ("fetch 0x80000001", "fault-0"), ("fetch 0x1000", "fault-1"), ("load 0x80000ff8", "0x0"), ("fetch 0x80000ff8", "0x0")
+        walking = (pages + "load 0x1000", "fault-13"), (pages + "fetch 0x1000", "fault-12"), (pages + "amoadd 0x1000 1", "fault-15")
+        changing = ("amoadd 0x80000004 1", "fault-6"), ("amoswap.w 0x1000 1", "fault-7"), ("amocas 0x80000ff8 0 1", "0x0"), ("amoor.w 0x80000ffc 1", "0x0")
+        for op, wanted in reading + walking + changing:
             write(os.path.join(self.room, "a.program"), f"board 1 1 9 0 0x80000000 0\nat 0x80000000\n{op}\n")
             lines = tester(self.room, "a.program", name="sbiboard explore").stdout.splitlines()
             must(f"{op}: {lines}", f"#   0:{op.count(chr(10)) + 3}={wanted} quiet: 1 states, 1 orders" in lines)

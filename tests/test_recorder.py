@@ -60,6 +60,7 @@ FENCE, SEND = (0x52464E43, 1, 3, 0), (IPI, 0, 1, 0)
 PLAYS = [
     Play("a call, its return, and an interrupt of the firmware", [enters(0), traps(0), calls(0, 0x10, 3, TIME), is_back(0, 0, 1), calls(0, 9, 9), is_back(0, -2), OFF],
          [BOOT, call(0, 0x10, 3, TIME), "0 ret 0 0x1", call(0, 9, 9), "0 ret -2 0x0", "m end off"]),
+    Play("a machine that answers late", [enters(0), {**calls(0, *FENCE), "late": 600}, is_back(0, 0, 1), OFF], [BOOT, call(0, *FENCE), "0 ret 0 0x1", "m end off"]),
     Play("a start that is entered before it returns", [enters(0), calls(0, HSM, 0, 1, HANDLER, 9), enters(1, HANDLER, 9), is_back(0), OFF],
          [BOOT, call(0, HSM, 0, 1, HANDLER, 9), "1 entry 0x80300000 0x1 0x9", "0 ret 0 0x0", "m end off"]),
     Play("a refused start", [enters(0), calls(0, HSM, 0, 1, HANDLER, 9), is_back(0, -3), enters(1, HANDLER, 9), OFF],

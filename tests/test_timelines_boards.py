@@ -6,7 +6,7 @@ import re
 import shutil
 from unittest import SkipTest
 
-from board_model import WIDTHS, board_of, is_in, step_of, words_of
+from board_model import WIDTHS, access_of, board_of, is_in, step_of, words_of
 
 from . import replays, test_modes
 from .fixtures import EXAMPLES, Test, every, must, read, script, write
@@ -35,6 +35,8 @@ def some_line(of):
     leaf = f"{of.choice(PAGES) << 10 | of.choice((0xCF, 0xCF, 0xC3, 0xEF, 0)):#x}"
     return of.choice((
         *[f"{guest} load {page:#x}"] * 4, *[f"{guest} fetch {page:#x}", f"{guest} fetch {page + 8:#x}", f"{guest} fetch {page:#x}"] * 2, f"{guest} store {page:#x} {of.randrange(9):#x}",
+        f"{guest} amoadd.w {page + 4:#x} {of.randrange(9):#x}", f"{guest} store2 {page + 6:#x} {of.randrange(9):#x}", f"0 amoor {of.choice(LEAVES):#x} {of.choice((0x80, 0xC0, 0)):#x}",
+        f"0 amocas {of.choice(PAGES) * 4096:#x} {of.randrange(3):#x} {of.randrange(9):#x}",
         *[f"0 store {of.choice(LEAVES):#x} {leaf}"] * 3, *[f"0 store {of.choice(PAGES) * 4096:#x} {of.randrange(9):#x}"] * 2,
         f"{guest} satp {of.choice((0, *(8 << 60 | of.choice((5, 5, 6)) << 44 | it >> 12 for it in ROOTS * 2))):#x}", f"{guest} fencei",
         f"{hart} sfence {of.choice(('-', f'{page:#x}'))} {of.choice(('-', '5'))}",
@@ -114,7 +116,8 @@ def is_of_space(satp, entry):
 def is_other_at(boards, h, entry, filled, place):
     """Whether a walk behind a step wouldn't give an entry: by the last satp that the hart wrote with its address space."""
     satp = next(it.harts[h].satp for it in reversed(boards.behind[: place + 1]) if is_of_space(it.harts[h].satp, entry))
-    return boards.behind[place].is_other(satp, boards.steps[filled][1][0], entry[0], entry)
+    kind, _ = access_of(boards.steps[filled][1])
+    return boards.behind[place].is_other(satp, kind, entry[0], entry)
 
 
 def changed_at(filled, place, is_other):
@@ -125,15 +128,16 @@ def changed_at(filled, place, is_other):
 def wanted_cause(boards, place):
     """The steps that filled and changed what a stale access used."""
     h, op = boards.steps[place]
+    _, va = access_of(op)
     hart = boards.behind[place - 1].harts[h]
-    used = lambda board: next(((n, it) for n, it in reversed(board.harts[h].tlb) if hart.satp and is_in(op[1], it) and is_of_space(hart.satp, it)), None)
+    used = lambda board: next(((n, it) for n, it in reversed(board.harts[h].tlb) if hart.satp and is_in(va, it) and is_of_space(hart.satp, it)), None)
     entry = used(boards.behind[place - 1])
     if entry:
         filled = filled_at(boards, h, "tlb", entry)
         if is_other_at(boards, h, entry[1], filled, place - 1):
             return filled, changed_at(filled, place - 1, lambda at: is_other_at(boards, h, entry[1], filled, at))
     entry = used(boards.behind[place])
-    address = entry[1][4] + op[1] - entry[1][0] if entry else op[1]
+    address = entry[1][4] + va - entry[1][0] if entry else va
     word = next(it for it in reversed(hart.words) if it[1] == address)
     filled = filled_at(boards, h, "words", word)
     return filled, changed_at(filled, place - 1, lambda at: boards.behind[at].ram.get(address, 0) != word[2])

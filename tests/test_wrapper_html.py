@@ -217,6 +217,7 @@ class HtmlPages(Test):
             must(f"{words}: {out!r} {said!r}", (status, out) == (2, "") and end in said)
         must_end(self.called("replay", "--html", "x", "a.sched")[:2], 2, "")
         must_end(self.called("test", "--html", "a.trace", "a.sched"), 7, "", "sbiboard: a.trace: not a folder\n")
+        must_end(self.called("test", "--html", "a.trace/b/c", "a.sched"), 7, "", "sbiboard: a.trace/b/c: a.trace is not a folder\n")
         must_end(self.called("test", "--html", "pages", "--tap", "/dev/null", "a.sched"), 7, "", "sbiboard: /dev/null: not a file, from which the points could be read\n")
         status, out, _ = self.called("test", "--html", "pages", "--tap", "points", "a.sched")
         must("the points", status == 1 and read(os.path.join(self.work, "points")) == out)

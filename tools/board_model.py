@@ -11,13 +11,32 @@ LOW = (1 << 32) - 1
 RAM = 0x80000000
 SSI, STI = 1 << 1, 1 << 5
 FAILED, NOT_SUPPORTED, INVALID_PARAM, INVALID_ADDRESS, ALREADY_AVAILABLE = -1, -2, -3, -5, -6
-GUEST = ("ecall", "load", "store", "fetch", "satp", "sie", "sstatus", "sip", "clearssip", "sfence", "fencei", "wfi")
+
+
+def signed(value, size):
+    return value - (value >> 8 * size - 1 << 8 * size)
+
+
+# What AMOs make of the old value and their operand, on so many bytes (unprivileged ISA 8.4).
+FUNCTIONS = {
+    "amoswap": lambda old, value, size: value, "amoadd": lambda old, value, size: old + value, "amoand": lambda old, value, size: old & value,
+    "amoor": lambda old, value, size: old | value, "amoxor": lambda old, value, size: old ^ value,
+    "amomin": lambda old, value, size: min(old, value, key=lambda it: signed(it, size)),
+    "amomax": lambda old, value, size: max(old, value, key=lambda it: signed(it, size)),
+    "amominu": lambda old, value, size: min(old, value), "amomaxu": lambda old, value, size: max(old, value),
+}  # fmt: skip
+# What is done in one step with the word around an address: on how many bytes, and what is written there, from the old value and the numbers.
+CHANGES = {name: (8, function) for name, function in FUNCTIONS.items()} | {f"{name}.w": (4, function) for name, function in FUNCTIONS.items()}
+CHANGES["amocas"] = (8, lambda old, expected, value, size: value if old == expected else old)
+STORES = {"store1": 1, "store2": 2, "store4": 4}
+CHANGES |= {name: (size, lambda old, value, size: value) for name, size in STORES.items()}
+GUEST = ("ecall", "load", "store", "fetch", *CHANGES, "satp", "sie", "sstatus", "sip", "clearssip", "sfence", "fencei", "wfi")
 DONE, WAITING, GONE = ("done",), ("waiting",), ("gone",)
 # The step without an actor: the history is cut, and its events are counted anew.
 CUT = (None, ("cut",))
-MISALIGNED = {"fetch": 0, "load": 4, "store": 6}
-ACCESS_FAULT = {"fetch": 1, "load": 5, "store": 7}
-PAGE_FAULT = {"fetch": 12, "load": 13, "store": 15}
+MISALIGNED = {"fetch": 0, "load": 4, "store": 6, "amo": 6}
+ACCESS_FAULT = {"fetch": 1, "load": 5, "store": 7, "amo": 7}
+PAGE_FAULT = {"fetch": 12, "load": 13, "store": 15, "amo": 15}
 # The bits of a virtual address by satp's MODE: Sv39 and Sv48.
 WIDTHS = {8: 39, 9: 48}
 
@@ -159,6 +178,8 @@ class Board:
         if actor is None:
             self.time += op[1]
             return DONE
+        if op[0] in CHANGES:
+            return self.change(actor, *op)
         return getattr(self, "do_" + op[0])(actor, *op[1:])
 
     def refusal(self, actor, op):
@@ -284,6 +305,23 @@ class Board:
             return DONE
 
         return self.access(h, "store", va, store)
+
+    def change(self, h, name, va, *numbers):
+        """An AMO, a compare-and-swap, or a store of 1, 2 or 4 bytes."""
+        size, makes = CHANGES[name]
+        kind, word_at = access_of((name, va))
+        if va % size:
+            return ("fault", MISALIGNED[kind])
+        low, mask = 8 * (va % 8), (1 << 8 * size) - 1
+
+        def change(pa):
+            word = self.ram.get(pa, 0)
+            old = word >> low & mask
+            made = makes(old, *(it & mask for it in numbers), size) & mask
+            self.ram[pa] = word & ~(mask << low) | made << low
+            return DONE if name in STORES else ("value", signed(old, size) & ALL)
+
+        return self.access(h, kind, word_at, change)
 
     def do_fetch(self, h, va):
         return self.access(h, "fetch", va, lambda pa: ("value", self.word(h, pa)))
@@ -470,9 +508,16 @@ def is_in(va, entry):
     return entry[0] <= va < entry[0] + (4096 << 9 * entry[1])
 
 
+def access_of(op):
+    """The kind of an operation's access, and the address of the word that it reads or writes; None if it is no access."""
+    if op[0] in CHANGES:
+        return "store" if op[0] in STORES else "amo", op[1] - op[1] % 8
+    return op[:2] if op[0] in ("load", "store", "fetch") else None
+
+
 def allows(entry, kind):
     r, w, x, d = entry[5:]
-    return {"load": r, "store": w and d, "fetch": x}[kind]
+    return {"load": r, "store": w and d, "fetch": x, "amo": r and w and d}[kind]
 
 
 # ---- scripts
@@ -498,7 +543,7 @@ def step_of(words):
     return None if words[0] == "c" else number(words[0]), (words[1], *(number(word) for word in words[2:]))
 
 
-HEX = {"ecall", "load", "store", "fetch", "satp", "sfence", "sie", "tick"}
+HEX = {"ecall", "load", "store", "fetch", *CHANGES, "satp", "sfence", "sie", "tick"}
 
 
 def spelled_step(actor, op):

@@ -6,7 +6,7 @@ import re
 from bisect import bisect_left
 from collections import defaultdict
 
-from board_model import DONE, GONE, RFENCE, WAITING, Board, Fault, covers, is_full, is_in, is_valid, targets
+from board_model import GONE, RFENCE, WAITING, Board, Fault, access_of, covers, is_full, is_in, is_valid, targets
 from holdings import FENCE, TRANSLATION, WORD, spelled_entry, spelled_fence
 
 # How many fences are told.
@@ -32,11 +32,11 @@ class Fenced:
 
 
 class Watched:
-    """A translation or a fetched word of a hart: for a translation also the access that filled it, and the satp by which a walk is
-    done: the last one that the hart wrote with its address space."""
+    """A translation or a fetched word of a hart: for a translation also the kind of access that filled it, and the satp by which a
+    walk is done: the last one that the hart wrote with its address space."""
 
-    def __init__(self, item, hart, op, satp):
-        self.item, self.hart, self.op, self.satp = item, hart, op, satp
+    def __init__(self, item, hart, kind, satp):
+        self.item, self.hart, self.kind, self.satp = item, hart, kind, satp
 
     def is_of_kind(self, fence):
         """Whether a fence is one of what is held: FENCE.I of words, and others of translations."""
@@ -66,13 +66,13 @@ class Causes:
     def take(self, place, actor, op, answer, why):
         """Behind a step that isn't refused."""
         self.reasons.append((f"{'c' if actor is None else actor} {op[0]}", why))
+        kind, va = access_of(op) or (None, None)
         if self.board.is_stale:
-            self.of[place] = self.cause(actor, op)
-        if op[0] in ("load", "store", "fetch"):
-            self.watch(place, actor, op)
-        if op[0] == "store" and answer == DONE:
-            used = self.board.used
-            self.write(place, used[4] + op[1] - used[0] if used else op[1], op[2])
+            self.of[place] = self.cause(actor, kind, va)
+        if kind:
+            self.watch(place, actor, kind)
+        if kind in ("store", "amo") and answer[0] != "fault":
+            self.write(place, self.reached(va))
         elif op[0] == "satp":
             self.judge_all(place, [it for it in self.held(actor) if it.item.kind == TRANSLATION and it.has_space(self.board.harts[actor].satp)])
         elif op[0] == "ecall" and op[1] == RFENCE and answer == WAITING:
@@ -106,15 +106,20 @@ class Causes:
         """What is watched of what a hart holds now."""
         return [self.of_item[it] for kind in (TRANSLATION, WORD) for it in self.holdings.open[hart][kind].values()]
 
-    def watch(self, place, actor, op):
+    def reached(self, va):
+        """The physical address of the last access."""
+        used = self.board.used
+        return used[4] + va - used[0] if used else va
+
+    def watch(self, place, actor, kind):
         """Begins to watch what an access has filled."""
         for it in self.holdings.items[actor][-2:]:
             if it.begin == place and it.kind != FENCE:
-                made = self.of_item[it] = Watched(it, actor, op, self.board.harts[actor].satp)
+                made = self.of_item[it] = Watched(it, actor, kind, self.board.harts[actor].satp)
                 self.judge_all(place, [made])
 
-    def write(self, place, address, value):
-        self.ram[address] = value
+    def write(self, place, address):
+        self.ram[address] = self.board.ram.get(address, 0)
         self.watched[address] = [it for it in self.watched[address] if it.item.end is None]
         self.judge_all(place, list(self.watched[address]))
 
@@ -127,7 +132,7 @@ class Causes:
             else:
                 it.satp = self.board.harts[it.hart].satp if it.has_space(self.board.harts[it.hart].satp) else it.satp
                 noted = self.walker.ram = Noted(self.ram)
-                is_other = self.walker.is_other(it.satp, it.op[0], it.item.what[0], it.item.what)
+                is_other = self.walker.is_other(it.satp, it.kind, it.item.what[0], it.item.what)
                 read = noted.read
             it.item.turn(place, is_other)
             for address in read:
@@ -142,19 +147,19 @@ class Causes:
         line = re.match(r"line \d+(?: to \d+)?", why)
         return f"step {place + 1}" + (f" ({line[0]}: {done})" if line else f" ({done})")
 
-    def cause(self, actor, op):
+    def cause(self, actor, kind, va):
         """Why the last step is stale, by what was so before it."""
         hart, used = self.board.harts[actor], self.board.used
         if used:
-            number = next(it[0] for it in reversed(hart.tlb) if it[1] == used and is_in(op[1], it[1]))
+            number = next(it[0] for it in reversed(hart.tlb) if it[1] == used and is_in(va, it[1]))
             item = self.holdings.open[actor][TRANSLATION][number]
             if item.is_stale():
                 self.walker.ram, gives = self.ram, None
                 with contextlib.suppress(Fault):
-                    gives = self.walker.walk(hart.satp, op[0], op[1])
+                    gives = self.walker.walk(hart.satp, kind, va)
                 now = f"the tables give {spelled_entry(gives)}" if gives else "the tables give no translation"
                 return self.told(self.of_item[item], f"used: hart {actor}'s translation {item.text}", now)
-        address = used[4] + op[1] - used[0] if used else op[1]
+        address = self.reached(va)
         number = next(it[0] for it in reversed(hart.words) if it[1] == address)
         item = self.holdings.open[actor][WORD][number]
         return self.told(self.of_item[item], f"used: hart {actor}'s fetched word {item.text}", f"memory has {self.ram.get(address, 0):#x}")

@@ -197,6 +197,8 @@ def watch(recorder):
 def main():
     for line in ("set pagination off", "set confirm off", "set architecture riscv:rv64", "set print thread-events off"):
         gdb.execute(line, to_string=True)
+    # (on a busy machine QEMU answers late: if gdb asks again, it takes each answer for that of the next question)
+    gdb.execute("set remotetimeout unlimited", to_string=True)
     gdb.execute(f"target remote {os.environ['RECORD_GATE']}", to_string=True)
     gdb.execute("maintenance packet Qqemu.PhyMemMode:1", to_string=True)
     # (one step masks interrupts, but lets time go on: else QEMU's clock may stand still for ever)

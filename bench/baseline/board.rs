@@ -1,5 +1,6 @@
 //! The board: a step changes it, and adds an event to its history or is refused.
 
+use crate::amo::Change;
 use crate::fences::{Fence, Fences};
 use crate::memory::{self, Access, Caches, Entry, RAM, Ram, WIDTHS, has_mode, is_valid};
 use crate::script::{CLOCK, CUT, Line, Name};
@@ -303,6 +304,12 @@ impl Board {
             Name::Load => return self.access(h, numbers[0], Access::Load),
             Name::Store => return self.access(h, numbers[0], Access::Store(numbers[1])),
             Name::Fetch => return self.access(h, numbers[0], Access::Fetch),
+            Name::Amo(function) => return self.change(h, numbers[0], Change::Double(function, numbers[1])),
+            Name::AmoHalf(function) => return self.change(h, numbers[0], Change::Half(function, numbers[1])),
+            Name::Amocas => return self.change(h, numbers[0], Change::Cas(numbers[1], numbers[2])),
+            Name::Store1 => return self.change(h, numbers[0], Change::Part(1, numbers[1])),
+            Name::Store2 => return self.change(h, numbers[0], Change::Part(2, numbers[1])),
+            Name::Store4 => return self.change(h, numbers[0], Change::Part(4, numbers[1])),
             Name::Advance => return self.advance(h),
             Name::Serve => {
                 self.serve(h);
@@ -348,9 +355,18 @@ impl Board {
         }
         match (answer, access) {
             (Ok(_), Access::Store(_)) => Reply::Done,
+            (Ok(_), Access::Change(_, change)) if !change.reads() => Reply::Done,
             (Ok(word), _) => Reply::Value(word),
             (Err(cause), _) => Reply::Fault(cause),
         }
+    }
+
+    fn change(&mut self, h: usize, va: u64, change: Change) -> Reply {
+        if va % u64::from(change.size()) != 0 {
+            return Reply::Fault(6);
+        }
+        let from = 8 * (va % 8) as u32;
+        self.access(h, va - va % 8, Access::Change(from, change))
     }
 
     /// A local SFENCE.VMA: an address that isn't valid is a range of no byte.

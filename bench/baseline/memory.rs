@@ -1,5 +1,6 @@
 //! The RAM, the page tables in it, and the two caches of a hart.
 
+use crate::amo::Change;
 use crate::fences::Fence;
 
 pub const RAM: u64 = 0x8000_0000;
@@ -20,6 +21,8 @@ pub enum Access {
     Load,
     Store(u64),
     Fetch,
+    /// From so many bits on in its word.
+    Change(u32, Change),
 }
 
 impl Access {
@@ -29,13 +32,15 @@ impl Access {
             Access::Load => R,
             Access::Store(_) => W | D,
             Access::Fetch => X,
+            Access::Change(_, change) if change.reads() => R | W | D,
+            Access::Change(..) => W | D,
         }
     }
 
     fn misaligned(self) -> u8 {
         match self {
             Access::Load => 4,
-            Access::Store(_) => 6,
+            Access::Store(_) | Access::Change(..) => 6,
             Access::Fetch => 0,
         }
     }
@@ -47,7 +52,7 @@ impl Access {
     fn page_fault(self) -> u8 {
         match self {
             Access::Load => 13,
-            Access::Store(_) => 15,
+            Access::Store(_) | Access::Change(..) => 15,
             Access::Fetch => 12,
         }
     }
@@ -332,6 +337,11 @@ pub fn perform(
         Access::Store(value) => {
             ram.0[place] = value;
             0
+        }
+        Access::Change(from, change) => {
+            let (old, made) = change.make(from, ram.0[place]);
+            ram.0[place] = made;
+            old
         }
         Access::Fetch => match caches.words.latest(|(at, _)| at == pa) {
             Some((_, word)) => word,

@@ -9,6 +9,8 @@ with open(os.environ["STAND_IN_PLAY"], encoding="ascii") as file:
     PLAY = json.load(file)
 BREAKPOINTS = set()
 NOW = {"hart": 0, "time": 0}
+# The seconds that gdb waits for an answer before it asks again, and what it was told last.
+WAITS = {"seconds": 2, "told": 0}
 
 
 class error(RuntimeError):
@@ -65,11 +67,16 @@ def execute(command, to_string=False):
         go_on()
     elif found := re.fullmatch(r"hbreak \*(0x[0-9a-f]+)", command):
         BREAKPOINTS.add(int(found[1], 16))
+    elif found := re.fullmatch(r"set remotetimeout (unlimited|[0-9]+)", command):
+        WAITS["seconds"] = float("inf" if found[1] == "unlimited" else found[1])
     return ""
 
 
 def parse_and_eval(expression):
-    return NOW.get(expression.partition("$")[2], 0)
+    """A register. Where the answer comes so `late` that gdb asks again, it takes the answer before for this one."""
+    value = NOW.get(expression.partition("$")[2], 0)
+    told, WAITS["told"] = WAITS["told"], value
+    return told if NOW.get("late", 0) > WAITS["seconds"] else value
 
 
 def selected_inferior():

@@ -15,12 +15,12 @@ from dataclasses import replace
 import usage
 from builds import NotBuilt, build, is_current, program_of
 from checked_run import run_unproved
-from commands import ALL, ALONE, COMPLETIONS, EXPLAIN, HELP, INSTALL, IS_INSTALLED, KNOWN, PROGRAM, TESTER, VERSION, version
+from commands import ALL, ALONE, COMPLETIONS, EXPLAIN, HELP, HTML, INSTALL, IS_INSTALLED, KNOWN, PROGRAM, TESTER, VERSION, version
 from completions import SHELLS
 from installing import install
 from kinds import kind_of, why_unread
 from man_page import man_page
-from reading import STDIN, is_asked, run_read
+from reading import STDIN, is_asked, run_read, why_no_folder
 
 # The statuses of the program, and that of a program that couldn't be built.
 BAD_SCRIPT, USAGE, BAD_FILE, NO_BUILD = 1, 2, 7, 70
@@ -151,6 +151,9 @@ def look_at(command, given):
         wrong = [f"sbiboard: {it}: {why}\n" for it in files if (why := why_untested(command, it))]
         if wrong:
             raise Ended(BAD_SCRIPT, "".join([*wrong, "sbiboard: so nothing is built\n"]))
+        folder = next(iter(given.get(HTML.name, ())), None)
+        if folder and (why := why_no_folder(folder)):
+            raise Ended(BAD_FILE, f"sbiboard: {folder}: {why}\nsbiboard: so nothing is built\n")
         return
     file, is_explained = STDIN if files[0] == "-" else files[0], EXPLAIN.name in given
     why = why_unread(file.encode())

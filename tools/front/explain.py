@@ -147,9 +147,15 @@ def mend(lines, fault, turn):
 # ---- what may be meant
 
 
+def likeness(word, other):
+    return difflib.SequenceMatcher(None, other, word).ratio()
+
+
 def alike(word, words):
-    """The words that are most like this one."""
-    found = [word.lower()] if word.lower() in words else difflib.get_close_matches(word.lower(), words, n=2, cutoff=0.6)
+    """The words that are most like this one: a second one if it is nearly as much so, and no longer form of the first."""
+    word = word.lower()
+    found = [word] if word in words else difflib.get_close_matches(word, words, n=2, cutoff=0.6)
+    found = found[:1] + [it for it in found[1:] if likeness(word, it) > likeness(word, found[0]) - 0.1 and not it.startswith(found[0])]
     return f"did you mean {' or '.join(repr(it) for it in found)}?" if found else ""
 
 

@@ -17,6 +17,8 @@ HART = "(?:0x0*[0-7]?[0-9A-Fa-f]|0*(?:[0-9]{1,2}|1[01][0-9]|12[0-7]))"
 GUEST_WORDS = {
     "ecall": (2, 8), "load": (1, 1), "store": (2, 2), "fetch": (1, 1), "satp": (1, 1), "sfence": (2, 2), "fencei": (0, 0), "sie": (1, 1),
     "sstatus": (1, 1), "sip": (0, 0), "clearssip": (0, 0), "wfi": (0, 0),
+    **{f"amo{it}{width}": (2, 2) for width in ("", ".w") for it in ("swap", "add", "and", "or", "xor", "min", "max", "minu", "maxu")},
+    "amocas": (3, 3), "store1": (2, 2), "store2": (2, 2), "store4": (2, 2),
 }  # fmt: skip
 FIRMWARE_WORDS = {"poll": (0, 0), "serve": (0, 0), "advance": (0, 0)}
 OPERATIONS = {**GUEST_WORDS, **FIRMWARE_WORDS, "tick": (1, 1)}
@@ -25,7 +27,7 @@ RULES, ENDS = ("never", "some", "each", "before", "end", "can", "after", "maybe"
 
 
 def with_numbers(name, least, most=None):
-    return f"{name}(?: {NUMBER}){{{least},{least if most is None else most}}}"
+    return f"{re.escape(name)}(?: {NUMBER}){{{least},{least if most is None else most}}}"
 
 
 # Those whose numbers aren't any.

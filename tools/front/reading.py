@@ -252,8 +252,8 @@ class Points:
             return BAD_FILE, CLOSED
         if junit and any(is_same(junit, it) for it in [*self.files, *([tap] if tap else [])]):
             return BAD_FILE, f"sbiboard: {junit}: entity already exists\n"
-        if folder and os.path.exists(folder) and not os.path.isdir(folder):
-            return BAD_FILE, f"sbiboard: {folder}: not a folder\n"
+        if folder and (why := why_no_folder(folder)):
+            return BAD_FILE, f"sbiboard: {folder}: {why}\n"
         is_read = folder or junit or tap and self.asked(TAP_VERSION.name) == "14"
         if is_read and tap and os.path.exists(tap) and not os.path.isfile(tap):
             return BAD_FILE, f"sbiboard: {tap}: not a file, from which the points could be read\n"
@@ -366,6 +366,16 @@ def is_closed_pipe():
     poll = select.poll()
     poll.register(1, select.POLLOUT)
     return any(of & select.POLLERR for _, of in poll.poll(0))
+
+
+def why_no_folder(path):
+    """Why no page can be written into a folder, which may not be there yet; None: one can."""
+    at = path
+    while not os.path.lexists(at):
+        at = os.path.dirname(at) or "."
+    if not os.path.isdir(at):
+        return "not a folder" if at == path else f"{at} is not a folder"
+    return None if os.access(at, os.W_OK | os.X_OK) else os.strerror(errno.EACCES)
 
 
 def is_same(path, other):

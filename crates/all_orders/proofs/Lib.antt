@@ -1,3 +1,4 @@
+mod Bounds
 mod Explored
 mod StepsTold
 mod Verdicts

@@ -1,11 +1,11 @@
-//! The values that a program's loads give.
+//! The values that a program's loads, fetches and AMOs give.
 use board_core::{Actor, Event, Op, Reply};
 use indexmap::IndexSet;
 use outcome_statistics::Spot;
 use std::alloc::{AllocError, Global};
 use test_report::Given;
 
-/// A load or a fetch of a program: its hart, and where it stands.
+/// A load, a fetch or an AMO of a program: its hart, and where it stands.
 #[derive(Clone, Copy, Debug, PartialEq, Eq, Hash)]
 pub(crate) struct Load {
     pub(crate) hart: u64,
@@ -58,14 +58,23 @@ impl Readings {
     }
 }
 
-/// What a load or a fetch gave.
+/// What an operation gave that reads the memory.
 fn given_by(event: &Event) -> Option<Given> {
-    match event.op() {
-        Op::Load(_) | Op::Fetch(_) => match event.reply() {
-            Reply::Value(value) => Some(Given::Value(value)),
-            Reply::Fault(cause) => Some(Given::Fault(cause.number())),
-            _ => None,
-        },
+    if !is_reading(event.op()) {
+        return None;
+    }
+    match event.reply() {
+        Reply::Value(value) => Some(Given::Value(value)),
+        Reply::Fault(cause) => Some(Given::Fault(cause.number())),
         _ => None,
+    }
+}
+
+/// Whether an operation reads the memory.
+fn is_reading(op: Op) -> bool {
+    match op {
+        Op::Load(_) | Op::Fetch(_) => true,
+        Op::Amo(_, amo) => amo.reads(),
+        _ => false,
     }
 }

@@ -7,7 +7,7 @@ ghost use Rattle.board_terms.specs.declared.config.BuildFault.TheVariants.{BadCo
 ghost use Rattle.board_core.specs.Cuts.{IsOpened, IsUnseen, last_cut, opening_of};
 ghost use Rattle.board_core.specs.Inside.Opened.{first_of};
 ghost use Rattle.board_core.specs.Refusals.{first_refusal};
-ghost use Rattle.board_core.specs.History.{Event, access_of, access_op};
+ghost use Rattle.board_core.specs.History.{Event, IsReach, access_of, access_op};
 ghost use Rattle.board_terms.specs.declared.op.Actor.TheVariants.{Hart, Clock};
 ghost use Rattle.board_core.specs.Csrs.{sie, sstatus_sie};
 ghost use Rattle.board_core.specs.Interrupts.{deadline, ssip, stip, time, wake};
@@ -242,7 +242,8 @@ impl Board {
     /// Performs and records an access of hart `h` that isn't refused, and returns the reply.
     #[inline(always)]
     fn access_step(&mut self, h: u64, va: u64, what: Access) -> Reply
-        requires { first_refusal self.old.opening self.old.past (Hart h) (access_op va what) ≡ None }
+        requires unrefused { first_refusal self.old.opening self.old.past (Hart h) (access_op va what) ≡ None }
+        requires reach { IsReach va what }
         ensures answer { Ok result ≡ answer self.old.opening self.old.past (Hart h) (access_op va what) }
         ensures after { self.new ≡ stepped self.old (Hart h) (access_op va what) }
     {

@@ -2,6 +2,7 @@
 ghost use Rattle.std.specs.Prelude.{◌≡◌, ◌-◌, ◌*◌, ◌<◌, ◌≤◌, List, ◌++◌, false, length, reverse};
 ghost use Rattle.interrupts.specs.Timing.{last_time};
 ghost use Rattle.sv39.specs.Maps.{maps};
+ghost use Rattle.sv39.specs.Memory.{word_in};
 ghost use Rattle.board_terms.specs.declared.op.Actor.TheVariants.{Hart, Clock};
 ghost use Rattle.board_core.specs.Csrs.{sie, sstatus_sie};
 ghost use Rattle.board_core.specs.Fences.{outstanding, phase, waiting};
@@ -26,7 +27,7 @@ use hsm::{EntryPoint, HartState};
 use rfence::Waiting;
 use sbi_abi::Reset;
 use std::marker::Model;
-use sv39::{Cause, Kind, Leaf, walk};
+use sv39::{Cause, Kind, Leaf, Ram, Satp, walk};
 use tlb_model::{Entry, FetchWord, Flush, Live};
 
 /// A view of a board: its opening and its history, with all look-ups. It borrows the board or the opening.
@@ -150,6 +151,21 @@ impl<'a> View<'a> {
         } else {
             None
         }
+    }
+
+    /// satp of hart `h`, as walks take it (Privileged 4.1.11).
+    pub fn satp_register(&self, h: u64) -> Satp
+        requires { h < self.now.opening.config.harts }
+        ensures { result ≡ satp self.now.opening self.now.past h }
+    {
+        self.machine.memory.satp(h)
+    }
+
+    /// The RAM, as walks take it.
+    pub fn ram(&self) -> &'a Ram
+        ensures { word_in result.now ≡ memory self.now.opening self.now.past }
+    {
+        &self.machine.memory.ram
     }
 
     /// The result of a page table walk by the satp of hart `h`, whatever its TLB holds: the leaf that maps the address

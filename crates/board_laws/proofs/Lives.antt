@@ -4,6 +4,8 @@ use Rattle.std.specs.Prelude.{◌⊎◌, unwrap_or}
 use Rattle.std.specs.List.{Contains}
 use Rattle.std.proofs.lemmas.List.Elements.{All-weaker}
 use Rattle.sv39.specs.declared.cause.Cause.{Cause}
+use Rattle.amo.specs.Amos.{amo_size}
+use Rattle.amo.specs.Parts.{word_at}
 use Rattle.tlb_model.specs.declared.entry.Address.{Address}
 use Rattle.tlb_model.specs.declared.word.FetchWord.{FetchWord}
 use Rattle.tlb_model.specs.Acts.{Fill, WasFilled}
@@ -21,7 +23,7 @@ use Rattle.board_core.specs.Opening.{Opening, place_after, tlb_at, words_at}
 use Rattle.board_terms.specs.declared.op.Actor.{Actor}
 use Rattle.board_terms.specs.declared.op.Actor.TheVariants.{Hart}
 use Rattle.board_terms.specs.declared.op.Op.{Op}
-use Rattle.board_terms.specs.declared.op.Op.TheVariants.{Load, Store, Fetch}
+use Rattle.board_terms.specs.declared.op.Op.TheVariants.{Load, Store, Fetch, Amo}
 use Rattle.board_terms.specs.declared.reply.Refusal.{Refusal}
 use Rattle.board_terms.specs.declared.reply.Reply.{Reply}
 use Rattle.board_terms.specs.declared.reply.Reply.TheVariants.{Value}
@@ -55,6 +57,9 @@ reply-access o older t (Store va value) reach access =
     ap (λ (x : Reach). access_reply o older t x.va x.access) same
 reply-access o older t (Fetch va) reach access =
     let same : (let made : Reach = record { va = va; access = accesses.Fetch } in made) ≡ reach = cc in
+    ap (λ (x : Reach). access_reply o older t x.va x.access) same
+reply-access o older t (Amo at amo) reach access =
+    let same : (let made : Reach = record { va = word_at (amo_size amo) at; access = accesses.Amo at amo } in made) ≡ reach = cc in
     ap (λ (x : Reach). access_reply o older t x.va x.access) same
 reply-access o older t op reach access = cc
 
@@ -90,6 +95,11 @@ filled-by (Fetch va) used_entry satp_now tlb item e = by_hit (tlb (address_by sa
     by_hit : (found : Option Entry) → tlb (address_by satp_now va) ≡ found → filling_of found used_entry ≡ Some item → FilledBy (Fetch va) used_entry satp_now tlb item
     by_hit (Some other) is e = cc
     by_hit None is e = record { reach = record { va = va; access = accesses.Fetch }; access = refl; missed = is; is_used = e }
+filled-by (Amo at amo) used_entry satp_now tlb item e = by_hit (tlb (address_by satp_now (word_at (amo_size amo) at))) refl e
+  where
+    by_hit : (found : Option Entry) → tlb (address_by satp_now (word_at (amo_size amo) at)) ≡ found → filling_of found used_entry ≡ Some item → FilledBy (Amo at amo) used_entry satp_now tlb item
+    by_hit (Some other) is e = cc
+    by_hit None is e = record { reach = record { va = word_at (amo_size amo) at; access = accesses.Amo at amo }; access = refl; missed = is; is_used = e }
 filled-by op used_entry satp_now tlb item e = cc
 
 -- what is used without a hit is filled

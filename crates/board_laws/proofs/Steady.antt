@@ -14,7 +14,7 @@ use Rattle.tlb_model.specs.declared.entry.Address.{Address}
 use Rattle.tlb_model.specs.Entries.{Entry}
 use Rattle.tlb_model.specs.declared.fence.Fence.{Fence}
 use Rattle.hart_access.specs.declared.accesses.Access.{Access}
-use Rattle.hart_access.specs.declared.accesses.Access.TheVariants.{Load, Store, Fetch}
+use Rattle.hart_access.specs.declared.accesses.Access.TheVariants.{Load, Store, Fetch, Amo}
 use Rattle.hart_access.specs.Accesses as whole
 use Rattle.hart_access.specs.AccessKinds.{kind_of}
 use Rattle.hart_access.specs.Translations.{IsTranslated, hit_at}
@@ -95,6 +95,7 @@ failed : (access : Access) (cause : Cause) → access_reply_of access (Err cause
 failed Load cause = refl
 failed (Store value) cause = refl
 failed Fetch cause = refl
+failed (Amo at amo) cause = refl
 
 pub steady_tables_decide : (o : Opening) (past : List Event) (limit t a p : ℕ) (fence : Fence) (reach : Reach) (result : Result Leaf Cause)
     → IsOpened (with_limit limit o) → IsLegal o past → (x : FencedAccess o past t a p fence reach) → IsTranslated (satp o (past_at o past p) t) reach.va → TablesAreSteady o past t a p reach result

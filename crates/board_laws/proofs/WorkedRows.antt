@@ -1,10 +1,12 @@
 -- Worked rows, computed from the definitions: what lives before a fence and after it.
 use Rattle.std.proofs.Common.{◌≡◌, ℕ, suc, ◌+◌, ◌*◌, ◌^◌, List, [], ◌∷◌, ◌++◌, length, true, false, pos, refl, sym, ap, ◌∙◌, arith, ◌<◌, ◌≤◌, inl, inr, Err, length-append}
 use Rattle.std.specs.Prelude.{Some, None, map, take}
+use Rattle.amo.specs.declared.amo.Amo.TheVariants.{Half}
+use Rattle.amo.specs.declared.function.AmoFunction.TheVariants.{Add}
 use Rattle.tlb_model.specs.Entries.{Entry as CacheEntry}
 use Rattle.tlb_model.specs.declared.fence.Flush.TheVariants.{Entries}
 use Rattle.sv39.specs.declared.page.Level.TheVariants.{Giga}
-use Rattle.sv39.specs.declared.cause.Cause.TheVariants.{LoadPageFault}
+use Rattle.sv39.specs.declared.cause.Cause.TheVariants.{LoadPageFault, StorePageFault}
 use Rattle.sv39.specs.Maps.{maps}
 use Rattle.sv39.specs.Memory.{is_in_ram, word_in, zero_memory}
 use Rattle.sv39.specs.Paging.{is_valid_by}
@@ -15,7 +17,7 @@ use Rattle.hart_mask.specs.Ids.{ids_where}
 use Rattle.board_core.specs.Opening.{Opening, opening_at}
 use Rattle.board_terms.specs.declared.op.Actor.TheVariants.{Hart}
 use Rattle.board_terms.specs.declared.op.Op.{Op}
-use Rattle.board_terms.specs.declared.op.Op.TheVariants.{Advance, Ecall, Fetch, FenceI, Load, Poll, Serve, Sfence, Store, WriteSatp}
+use Rattle.board_terms.specs.declared.op.Op.TheVariants.{Advance, Amo, Ecall, Fetch, FenceI, Load, Poll, Serve, Sfence, Store, WriteSatp}
 use Rattle.board_terms.specs.declared.reply.Reply.{Reply}
 use Rattle.board_terms.specs.declared.reply.Reply.TheVariants.{Done, Entry, Fault, Gone, Ret, Served, Value, Waiting}
 use Rattle.board_core.specs.Calls.Rfence.{flush_of_range}
@@ -71,6 +73,17 @@ gone-after = refl
 fresh-load : replies (by_hart (Load 0x80002000 ∷ Sfence None None ∷ unmapped)) ≡ Fault LoadPageFault ∷ Done ∷ Done ∷ Value 0 ∷ Done ∷ Done ∷ Entry 0x80000000 0 0 ∷ []
 unfolding maps is_valid_by word_in zero_memory is_in_ram
 fresh-load = refl
+
+-- An AMO uses the entry, too, and changes a word of the page. After the fence it fails with a store's cause.
+stale-amo : replies (by_hart (Load 0x80002000 ∷ Amo 0x80002004 (Half Add 7) ∷ unmapped))
+    ≡ Value 0x700000000 ∷ Value 0 ∷ Done ∷ Value 0 ∷ Done ∷ Done ∷ Entry 0x80000000 0 0 ∷ []
+unfolding maps is_valid_by word_in zero_memory is_in_ram
+stale-amo = refl
+
+fresh-amo : replies (by_hart (Amo 0x80002004 (Half Add 7) ∷ Sfence None None ∷ unmapped))
+    ≡ Fault StorePageFault ∷ Done ∷ Done ∷ Value 0 ∷ Done ∷ Done ∷ Entry 0x80000000 0 0 ∷ []
+unfolding maps is_valid_by word_in zero_memory is_in_ram
+fresh-amo = refl
 
 -- A fence of another address leaves it, if the address isn't in its page.
 lives-after : entry_dates (by_hart (Sfence (Some 0x2000) None ∷ unmapped)) ≡ 3 ∷ []

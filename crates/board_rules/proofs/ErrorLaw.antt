@@ -2,6 +2,8 @@
 use Rattle.std.proofs.Common.{◌≡◌, ◌+◌, ℕ, Bool, true, false, List, [], ◌∷◌, length, refl, sym, ap, ◌∙◌, arith}
 use Rattle.std.specs.Prelude.{Option, Some, None, Result, Ok, Err, nat_le, not, if◌then◌else◌, is_none, sum_by}
 use Rattle.std.specs.List.{filter_map}
+use Rattle.amo.specs.Amos.{reads, amo_size}
+use Rattle.amo.specs.Parts.{word_at}
 use Rattle.sbi_abi.specs.declared.answer.SbiError.{SbiError}
 use Rattle.tlb_model.specs.declared.fence.Flush.{Flush}
 use Rattle.rfence.specs.Turns.{Quiet}
@@ -30,10 +32,10 @@ use Rattle.board_terms.specs.declared.op.Actor.{Actor}
 use Rattle.board_terms.specs.declared.op.Actor.TheVariants.{Hart, Clock}
 use Rattle.board_rules.specs.History.{Event}
 use Rattle.board_terms.specs.declared.op.Op.{Op}
-use Rattle.board_terms.specs.declared.op.Op.TheVariants.{Ecall, Load, Store, Fetch, WriteSatp, WriteSie, WriteSstatusSie, ReadSip, ClearSsip, Wfi, Sfence, FenceI, Poll, Serve, Advance, Tick}
+use Rattle.board_terms.specs.declared.op.Op.TheVariants.{Ecall, Load, Store, Fetch, Amo, WriteSatp, WriteSie, WriteSstatusSie, ReadSip, ClearSsip, Wfi, Sfence, FenceI, Poll, Serve, Advance, Tick}
 use Rattle.board_terms.specs.declared.reply.Refusal.{Refusal}
 use Rattle.board_terms.specs.declared.reply.Reply.{Reply}
-use Rattle.board_terms.specs.declared.reply.Reply.TheVariants.{Ret, Done}
+use Rattle.board_terms.specs.declared.reply.Reply.TheVariants.{Ret, Value, Done}
 use Rattle.board_rules.specs.Course.{harts_of}
 use Rattle.sv39.specs.declared.cause.Cause.{Cause}
 use Rattle.tlb_model.specs.declared.caches.Caches.{Caches}
@@ -146,6 +148,12 @@ module _ (o : Opening) (past : List Event) where
   accessed_well (accesses.Store value) (Err cause) = refl
   accessed_well accesses.Fetch (Ok word) = refl
   accessed_well accesses.Fetch (Err cause) = refl
+  accessed_well (accesses.Amo at amo) (Ok old) = by_reads (reads amo)
+    where
+      by_reads : (is : Bool) → is_error (if is then Value old else Done) ≡ false
+      by_reads true = refl
+      by_reads false = refl
+  accessed_well (accesses.Amo at amo) (Err cause) = refl
 
   -- a tick that isn't refused is done
   ticked_well : (refusal : Option Refusal) (r : Reply) → refused_or refusal Done ≡ Ok r → r ≡ Done
@@ -158,6 +166,7 @@ module _ (o : Opening) (past : List Event) where
   failed Clock (Load va) r used e error = absurd (clock_ticks o past (Load va) r refl e)
   failed Clock (Store va value) r used e error = absurd (clock_ticks o past (Store va value) r refl e)
   failed Clock (Fetch va) r used e error = absurd (clock_ticks o past (Fetch va) r refl e)
+  failed Clock (Amo at amo) r used e error = absurd (clock_ticks o past (Amo at amo) r refl e)
   failed Clock (WriteSatp value) r used e error = absurd (clock_ticks o past (WriteSatp value) r refl e)
   failed Clock (WriteSie value) r used e error = absurd (clock_ticks o past (WriteSie value) r refl e)
   failed Clock (WriteSstatusSie value) r used e error = absurd (clock_ticks o past (WriteSstatusSie value) r refl e)
@@ -180,6 +189,8 @@ module _ (o : Opening) (past : List Event) where
           (let e = sym (accessed_well (accesses.Store value) (whole.answer (memory o past) (satp o past x) (hit o past x) (cached o past x) va (accesses.Store value))) ∙ ap is_error is ∙ error in cc)
       by_op (Fetch va) is = absurd
           (let e = sym (accessed_well accesses.Fetch (whole.answer (memory o past) (satp o past x) (hit o past x) (cached o past x) va accesses.Fetch)) ∙ ap is_error is ∙ error in cc)
+      by_op (Amo at amo) is = absurd
+          (let e = sym (accessed_well (accesses.Amo at amo) (whole.answer (memory o past) (satp o past x) (hit o past x) (cached o past x) (word_at (amo_size amo) at) (accesses.Amo at amo))) ∙ ap is_error is ∙ error in cc)
       by_op (WriteSatp value) is = absurd (let e = rw (← is) at error in cc)
       by_op (WriteSie value) is = absurd (let e = rw (← is) at error in cc)
       by_op (WriteSstatusSie value) is = absurd (let e = rw (← is) at error in cc)

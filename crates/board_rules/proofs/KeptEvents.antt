@@ -1,6 +1,9 @@
 -- An event that is kept says what it was made of.
 use Rattle.std.proofs.Common.{◌≡◌, ℕ, Option, refl, sym, ap, ◌∙◌}
 use Rattle.std.proofs.lemmas.Bool.{lt-ltb}
+use Rattle.amo.specs.declared.amo.Amo.{Amo}
+use Rattle.amo.specs.declared.amo.Amo.TheVariants as amos
+use Rattle.amo.specs.Names.{amo_first, made_of, amo_name, amo_second}
 use Rattle.tlb_model.specs.Entries.{Entry}
 use Rattle.board_terms.specs.declared.op.Actor.{Actor}
 use Rattle.board_terms.specs.declared.op.Actor.TheVariants.{Hart, Clock}
@@ -18,12 +21,22 @@ actor_again : (a : Actor) → IsByte a → actor_of (by_of a) ≡ a
 actor_again (Hart h) short = rw (lt-ltb h 255 short) refl
 actor_again Clock short = refl
 
+-- an operation by its name and its numbers
+amo_again : (amo : Amo) → made_of (amo_name amo) (amo_first amo) (amo_second amo) ≡ amo
+amo_again (amos.Double function operand) = refl
+amo_again (amos.Half function operand) = refl
+amo_again (amos.Cas expected value) = refl
+amo_again (amos.Store1 value) = refl
+amo_again (amos.Store2 value) = refl
+amo_again (amos.Store4 value) = refl
+
 module _ (head : Head) (used : Option Entry) (first opaque : ℕ) where
   head_again : (op : Op) → head_in (what_of head op used first opaque) ≡ head
   head_again (ops.Ecall regs) = refl
   head_again (ops.Load va) = refl
   head_again (ops.Store va value) = refl
   head_again (ops.Fetch va) = refl
+  head_again (ops.Amo at amo) = refl
   head_again (ops.WriteSatp value) = refl
   head_again (ops.WriteSie value) = refl
   head_again (ops.WriteSstatusSie value) = refl
@@ -42,6 +55,7 @@ module _ (head : Head) (used : Option Entry) (first opaque : ℕ) where
   op_again (ops.Load va) = refl
   op_again (ops.Store va value) = refl
   op_again (ops.Fetch va) = refl
+  op_again (ops.Amo at amo) = ap (λ (made : Amo). ops.Amo at made) (amo_again amo)
   op_again (ops.WriteSatp value) = refl
   op_again (ops.WriteSie value) = refl
   op_again (ops.WriteSstatusSie value) = refl
@@ -60,6 +74,7 @@ module _ (head : Head) (used : Option Entry) (first opaque : ℕ) where
   used_again (ops.Load va) = refl
   used_again (ops.Store va value) = refl
   used_again (ops.Fetch va) = refl
+  used_again (ops.Amo at amo) = refl
   used_again (ops.WriteSatp value) = refl
   used_again (ops.WriteSie value) = refl
   used_again (ops.WriteSstatusSie value) = refl
@@ -79,6 +94,7 @@ module _ (head : Head) (used : Option Entry) (first opaque : ℕ) where
   entry_again (ops.Load va) = refl
   entry_again (ops.Store va value) = refl
   entry_again (ops.Fetch va) = refl
+  entry_again (ops.Amo at amo) = refl
   entry_again (ops.WriteSatp value) = refl
   entry_again (ops.WriteSie value) = refl
   entry_again (ops.WriteSstatusSie value) = refl
@@ -97,6 +113,7 @@ module _ (head : Head) (used : Option Entry) (first opaque : ℕ) where
   first_again (ops.Load va) fits = refl
   first_again (ops.Store va value) fits = sym fits
   first_again (ops.Fetch va) fits = refl
+  first_again (ops.Amo at amo) fits = refl
   first_again (ops.WriteSatp value) fits = sym fits
   first_again (ops.WriteSie value) fits = sym fits
   first_again (ops.WriteSstatusSie value) fits = sym fits

@@ -10,7 +10,7 @@ use Rattle.sbi_abi.specs.declared.call.Call.{Call}
 use Rattle.sbi_abi.specs.declared.reset.Reset.{Reset}
 use Rattle.sbi_abi.specs.Calls.{call_of}
 use Rattle.board_terms.specs.declared.op.Op.{Op}
-use Rattle.board_terms.specs.declared.op.Op.TheVariants.{Ecall, Load, Store, Fetch, WriteSatp, WriteSie, WriteSstatusSie, ReadSip, ClearSsip, Wfi, Sfence, FenceI, Poll, Serve, Advance, Tick}
+use Rattle.board_terms.specs.declared.op.Op.TheVariants.{Ecall, Load, Store, Fetch, Amo, WriteSatp, WriteSie, WriteSstatusSie, ReadSip, ClearSsip, Wfi, Sfence, FenceI, Poll, Serve, Advance, Tick}
 use Rattle.hsm.specs.Transitions.{hart_at}
 use Rattle.board_rules.specs.Course.{harts_of}
 use Rattle.board_terms.specs.declared.config.Config.{Config}
@@ -98,6 +98,7 @@ length-starts-le o (event ∷ past) = by_op event.op (length-starts-le o past)
     by_op (Load va) before = omega arith
     by_op (Store va value) before = omega arith
     by_op (Fetch va) before = omega arith
+    by_op (Amo at amo) before = omega arith
     by_op (WriteSatp value) before = omega arith
     by_op (WriteSie value) before = omega arith
     by_op (WriteSstatusSie value) before = omega arith

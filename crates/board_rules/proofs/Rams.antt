@@ -1,8 +1,11 @@
 -- The memory after an accepted event is that of a RAM, as it was before.
 use Rattle.std.proofs.Common.{◌≡◌, ℕ, ◌+◌, ◌-◌, ◌/◌, ◌*◌, ◌^◌, ◌<◌, ◌≤◌, Bool, true, false, List, length, set, replicate, subst, refl, sym, ap, ◌∙◌, arith, inl, inr, Option, Some, None, Result, Ok, Err}
-use Rattle.std.specs.Prelude.{is_some, nat_le}
+use Rattle.std.specs.Prelude.{is_some, nat_le, unwrap_or}
 use Rattle.std.proofs.lemmas.Bool.{cases_lt}
 use Rattle.std.proofs.lemmas.List.{length-replicate, length-set}
+use Rattle.amo.specs.declared.amo.Amo.{Amo as AnAmo}
+use Rattle.amo.specs.Amos.{new_word, amo_size}
+use Rattle.amo.specs.Parts.{word_at as around}
 use Rattle.sbi_abi.specs.declared.reset.Reset.{Reset}
 use Rattle.sv39.specs.declared.cause.Cause.{Cause}
 use Rattle.sv39.specs.declared.cause.Kind.{Kind}
@@ -12,6 +15,7 @@ use Rattle.sv39.specs.Memory.{IsRam, pages_of, word_in, written, zero_memory}
 use Rattle.sv39.proofs.Words.{nat_tests, stands, word_at, word_in-cleared, word_in-set}
 use Rattle.tlb_model.specs.Entries.{Entry}
 use Rattle.hart_access.specs.declared.accesses.Access.TheVariants as accesses
+use Rattle.hart_access.specs.AccessKinds.{kind_of}
 use Rattle.hart_access.specs.Accesses as whole
 use Rattle.hart_access.specs.Ways.{in_memory, phys_at, phys_by}
 use Rattle.hart_access.proofs.Used.{place_of_used}
@@ -19,11 +23,11 @@ use Rattle.board_rules.specs.Accesses.{access_reply_of, cached, hit, used_by_act
 use Rattle.board_terms.specs.declared.op.Actor.{Actor}
 use Rattle.board_terms.specs.declared.op.Actor.TheVariants.{Hart, Clock}
 use Rattle.board_terms.specs.declared.op.Op.{Op}
-use Rattle.board_terms.specs.declared.op.Op.TheVariants.{Store}
+use Rattle.board_terms.specs.declared.op.Op.TheVariants.{Store, Amo}
 use Rattle.board_terms.specs.declared.reply.Reply.{Reply}
-use Rattle.board_terms.specs.declared.reply.Reply.TheVariants.{Done}
+use Rattle.board_terms.specs.declared.reply.Reply.TheVariants.{Value, Fault, Done}
 use Rattle.board_rules.specs.History.{Event}
-use Rattle.board_rules.specs.Memory.{memory, satp, writing_by, written_by, zeroed_by}
+use Rattle.board_rules.specs.Memory.{changed_by, memory, satp, writing_by, written_by, zeroed_by}
 use Rattle.board_rules.specs.Opening.{Opening}
 use Rattle.board_rules.specs.Refusals.{is_full, situation}
 use Rattle.board_rules.specs.Replies.{answer, reply}
@@ -88,6 +92,12 @@ stored-at : (memory_now : ℕ → Option ℕ) (words : ℕ → Option _) (found 
 stored-at memory_now words (Ok pa) value e = record { pa = pa; place = refl }
 stored-at memory_now words (Err cause) value e = cc
 
+-- and so has an AMO that isn't a fault
+changed-at : (memory_now : ℕ → Option ℕ) (words : ℕ → Option _) (found : Result ℕ Cause) (at : ℕ) (amo : AnAmo) (r : Reply) → ((cause : Cause) → r ≡ Fault cause → ⊥)
+    → access_reply_of (accesses.Amo at amo) (whole.answer_by memory_now words found (accesses.Amo at amo)) ≡ r → StoredAt memory_now found
+changed-at memory_now words (Ok pa) at amo r well e = record { pa = pa; place = refl }
+changed-at memory_now words (Err cause) at amo r well e = absurd (well cause (sym e))
+
 module _ (o : Opening) (past : List Event) (has : HasRam o.config.pages (memory o past)) where
   by_reset : (reset : Option Reset) → HasRam o.config.pages (written_by o.config (zeroed_by reset) (memory o past))
   by_reset None = has
@@ -96,6 +106,22 @@ module _ (o : Opening) (past : List Event) (has : HasRam o.config.pages (memory 
       by_cold : (cold : Bool) → is_cold reset.kind ≡ cold → HasRam o.config.pages (written_by o.config (zeroed_by (Some reset)) (memory o past))
       by_cold true is = rw is (ram-cleared o.config.pages (memory o past) has)
       by_cold false is = rw is has
+
+  -- after an AMO that isn't a fault
+  amo-after : (x at : ℕ) (amo : AnAmo) (r : Reply) (translation : Option Entry) → ((cause : Cause) → r ≡ Fault cause → ⊥)
+      → answer o past (Hart x) (Amo at amo) ≡ Ok r → translation ≡ used_by_actor o past (Hart x) (Amo at amo)
+      → HasRam o.config.pages (written_by o.config (Some (changed_by at amo translation)) (memory o past))
+  amo-after x at amo r translation well answered is =
+      let va = around (amo_size amo) at in
+      let what = accesses.Amo at amo in
+      let replied = (accepted (is_off o past) (nat_le o.config.harts x) (situation o past x) (Amo at amo) (is_full o past) (reply o past x (Amo at amo)) r answered).1 in
+      let found = changed-at (memory o past) (cached o past x) (whole.place (memory o past) (satp o past x) (hit o past x) va what) at amo r well replied in
+      let way = whole.way_of (memory o past) (satp o past x) (hit o past x) va what in
+      let here : found.pa ≡ phys_at translation va =
+      place_of_used (memory o past) way va (kind_of what) found.pa found.place ∙ ap (λ u. phys_at u va) (sym is) in
+      let there = place-some (memory o past) (kind_of what) (phys_by way va (kind_of what)) found.pa found.place in
+      ram-stored o.config.pages (phys_at translation va) (new_word amo at (unwrap_or (memory o past (phys_at translation va)) 0)) (memory o past) has
+      (subst (λ pa. is_some (memory o past pa) ≡ true) here there)
 
   -- after an event that was accepted
   pub ram-after : (actor : Actor) (op : Op) (r : Reply) (translation : Option Entry) → answer o past actor op ≡ Ok r → translation ≡ used_by_actor o past actor op
@@ -108,6 +134,10 @@ module _ (o : Opening) (past : List Event) (has : HasRam o.config.pages (memory 
       place_of_used (memory o past) way va kinds.Store found.pa found.place ∙ ap (λ u. phys_at u va) (sym is) in
       let there = place-some (memory o past) kinds.Store (phys_by way va kinds.Store) found.pa found.place in
       ram-stored o.config.pages (phys_at translation va) value (memory o past) has (subst (λ pa. is_some (memory o past pa) ≡ true) at there)
+  ram-after (Hart x) (Amo at amo) Done translation answered is = amo-after x at amo Done translation (λ cause e. cc) answered is
+  ram-after (Hart x) (Amo at amo) (Value old) translation answered is = amo-after x at amo (Value old) translation (λ cause e. cc) answered is
+  ram-after Clock (Amo at amo) Done translation answered is = absurd (clock_ticks o past (Amo at amo) Done refl answered)
+  ram-after Clock (Amo at amo) (Value old) translation answered is = absurd (clock_ticks o past (Amo at amo) (Value old) refl answered)
   ram-after Clock (Store va value) Done translation answered is = absurd (clock_ticks o past (Store va value) Done refl answered)
   ram-after actor op r translation answered is = by_reset (reset_by op r)
 

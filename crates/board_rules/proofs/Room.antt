@@ -1,6 +1,9 @@
 -- What a board answers has room in an event.
 use Rattle.std.proofs.Common.{◌<◌, ◌^◌, ℕ, Bool, true, false, List, refl, arith, FitsSigned, w8}
 use Rattle.std.specs.Prelude.{pos, Option, Some, None, Result, Ok, Err, if◌then◌else◌}
+use Rattle.amo.specs.declared.amo.Amo.{Amo}
+use Rattle.amo.specs.Amos.{reads, amo_size}
+use Rattle.amo.specs.Parts.{word_at}
 use Rattle.sbi_abi.specs.declared.answer.SbiError.{SbiError}
 use Rattle.sbi_abi.specs.declared.answer.SbiError.TheVariants as errors
 use Rattle.sbi_abi.specs.declared.answer.SbiError.TheVariants.{Failed, InvalidAddress}
@@ -35,6 +38,7 @@ use Rattle.board_terms.specs.declared.op.Actor.TheVariants.{Hart}
 use Rattle.board_terms.specs.declared.op.Op.{Op}
 use Rattle.board_terms.specs.declared.op.Op.TheVariants as ops
 use Rattle.board_terms.specs.declared.reply.Reply.{Reply}
+use Rattle.board_terms.specs.declared.reply.Reply.TheVariants.{Value, Done}
 use Rattle.board_rules.specs.Accesses.{access_reply_of}
 use Rattle.board_rules.specs.Csrs.{sstatus_sie}
 use Rattle.board_rules.specs.Calls.{reply_to}
@@ -154,6 +158,12 @@ module _ (x : ℕ) where
   access_room va accesses.Load (Err cause) = (tt, tt, tt)
   access_room va (accesses.Store value) (Err cause) = (tt, tt, refl)
   access_room va accesses.Fetch (Err cause) = (tt, tt, tt)
+  access_room va (accesses.Amo at amo) (Ok old) = by_reads (reads amo)
+    where
+      by_reads : (is : Bool) → HasRoom x (ops.Amo at amo) (if is then Value old else Done)
+      by_reads true = (tt, tt, tt)
+      by_reads false = (tt, tt, tt)
+  access_room va (accesses.Amo at amo) (Err cause) = (tt, tt, tt)
 
   resume_room : (resume : Option EntryPoint) → HasRoom x ops.Advance (resume_reply x resume)
   resume_room None = (zero_short, tt, tt)
@@ -174,6 +184,7 @@ module _ (x : ℕ) where
   reply_room o past (ops.Load va) = access_room va accesses.Load _
   reply_room o past (ops.Store va value) = access_room va (accesses.Store value) _
   reply_room o past (ops.Fetch va) = access_room va accesses.Fetch _
+  reply_room o past (ops.Amo at amo) = access_room (word_at (amo_size amo) at) (accesses.Amo at amo) _
   reply_room o past ops.ReadSip = (tt, tt, tt)
   reply_room o past ops.Poll = (zero_short, tt, refl)
   reply_room o past ops.Advance = advance_room (state o past x) (last_start o past x) (resume_point o past x)

@@ -22,7 +22,7 @@ use Rattle.board_terms.specs.declared.op.Actor.{Actor}
 use Rattle.board_terms.specs.declared.op.Actor.TheVariants.{Hart, Clock}
 use Rattle.board_rules.specs.History.{Event}
 use Rattle.board_terms.specs.declared.op.Op.{Op}
-use Rattle.board_terms.specs.declared.op.Op.TheVariants.{Ecall, Load, Store, Fetch, WriteSatp, WriteSie, WriteSstatusSie, ReadSip, ClearSsip, Wfi, Sfence, FenceI, Poll, Serve, Advance, Tick}
+use Rattle.board_terms.specs.declared.op.Op.TheVariants.{Ecall, Load, Store, Fetch, Amo, WriteSatp, WriteSie, WriteSstatusSie, ReadSip, ClearSsip, Wfi, Sfence, FenceI, Poll, Serve, Advance, Tick}
 use Rattle.board_terms.specs.declared.reply.Reply.{Reply}
 use Rattle.board_terms.specs.declared.reply.Reply.TheVariants.{Ret, Entry}
 use Rattle.tlb_model.specs.Entries.{Entry as CacheEntry}
@@ -215,6 +215,7 @@ module _ (o : Opening) where
   after_event past Clock (Load va) r used e before h = absurd (clock_ticks o past (Load va) r refl e)
   after_event past Clock (Store va value) r used e before h = absurd (clock_ticks o past (Store va value) r refl e)
   after_event past Clock (Fetch va) r used e before h = absurd (clock_ticks o past (Fetch va) r refl e)
+  after_event past Clock (Amo at amo) r used e before h = absurd (clock_ticks o past (Amo at amo) r refl e)
   after_event past Clock (WriteSatp value) r used e before h = absurd (clock_ticks o past (WriteSatp value) r refl e)
   after_event past Clock (WriteSie value) r used e before h = absurd (clock_ticks o past (WriteSie value) r refl e)
   after_event past Clock (WriteSstatusSie value) r used e before h = absurd (clock_ticks o past (WriteSstatusSie value) r refl e)
@@ -233,6 +234,7 @@ module _ (o : Opening) where
   after_event past (Hart x) (Load va) r used e before h = before h
   after_event past (Hart x) (Store va value) r used e before h = before h
   after_event past (Hart x) (Fetch va) r used e before h = before h
+  after_event past (Hart x) (Amo at amo) r used e before h = before h
   after_event past (Hart x) (WriteSatp value) r used e before h = before h
   after_event past (Hart x) (WriteSie value) r used e before h = before h
   after_event past (Hart x) (WriteSstatusSie value) r used e before h = before h

@@ -1,5 +1,5 @@
 -- How an accepted step makes a course one event longer.
-use Rattle.std.proofs.Common.{◌≡◌, ◌≢◌, ℕ, ◌+◌, ◌<◌, ◌≤◌, Bool, true, false, List, [], ◌∷◌, ◌++◌, length, reverse, refl, sym, ap, ◌∙◌, arith, eqb, inl, inr}
+use Rattle.std.proofs.Common.{◌≡◌, ◌≢◌, ℕ, ◌+◌, ◌<◌, ◌≤◌, Bool, true, false, List, [], ◌∷◌, ◌++◌, length, reverse, refl, sym, ap, ◌∙◌, arith, eqb, inl, inr, subst}
 use Rattle.std.specs.Prelude.{Option, Some, None, Ok, Err, is_some, unwrap_or, nat_le, nat_lt}
 use Rattle.std.proofs.lemmas.Bool.{cases_Bool, le-ltb, leb-false, leb-true, ltb-false}
 use Rattle.std.proofs.lemmas.List.{reverse-append}
@@ -11,9 +11,9 @@ use Rattle.board_terms.specs.declared.op.Actor.{Actor}
 use Rattle.board_terms.specs.declared.op.Actor.TheVariants.{Hart, Clock}
 use Rattle.hart_access.specs.declared.accesses.Access.{Access}
 use Rattle.hart_access.specs.declared.accesses.Access.TheVariants as accesses
-use Rattle.board_rules.specs.History.{Event, Reach, access_of, access_op, entry_of, using}
+use Rattle.board_rules.specs.History.{Event, IsReach, Reach, access_of, access_op, entry_of, using}
 use Rattle.board_terms.specs.declared.op.Op.{Op}
-use Rattle.board_terms.specs.declared.op.Op.TheVariants.{Load, Store, Fetch, Tick}
+use Rattle.board_terms.specs.declared.op.Op.TheVariants.{Load, Store, Fetch, Amo, Tick}
 use Rattle.board_terms.specs.declared.reply.Refusal.{Refusal}
 use Rattle.board_terms.specs.declared.reply.Refusal.TheVariants.{Off, WrongPhase, HistoryFull, TimeFull}
 use Rattle.board_terms.specs.declared.reply.Reply.{Reply}
@@ -24,6 +24,7 @@ use Rattle.board_rules.specs.Refusals.{IsAccepted, first_refusal, first_that_hol
 use Rattle.board_rules.specs.Replies.{answer, refused_or, reply, stepped}
 use Rattle.board_rules.specs.Resets.{is_off}
 use Rattle.board_rules.specs.Cuts.{IsKept}
+use Rattle.board_rules.proofs.Accessing.{amo_at}
 use Rattle.board_rules.proofs.Rows.{unrefused}
 use Rattle.board_rules.proofs.Tables.{eqb-same}
 
@@ -93,18 +94,18 @@ pub access_is : (op : Op) (va : ℕ) (what : Access) → access_of op ≡ Some (
 access_is (Load at) va what is = ap (λ (reach : Reach). access_op reach.va reach.access) (same_Some _ _ is)
 access_is (Store at value) va what is = ap (λ (reach : Reach). access_op reach.va reach.access) (same_Some _ _ is)
 access_is (Fetch at) va what is = ap (λ (reach : Reach). access_op reach.va reach.access) (same_Some _ _ is)
+access_is (Amo at amo) va what is = ap (λ (reach : Reach). access_op reach.va reach.access) (same_Some _ _ is)
 access_is op va what is = absurd cc
 
--- an access is the one of its operation
-pub access_again : (va : ℕ) (what : Access) → access_of (access_op va what) ≡ Some (record { va = va; access = what })
-access_again va accesses.Load = refl
-access_again va (accesses.Store value) = refl
-access_again va accesses.Fetch = refl
+-- so the access is the one of its operation
+pub access_again : (op : Op) (va : ℕ) (what : Access) → access_of op ≡ Some (record { va = va; access = what }) → IsReach va what
+access_again op va what is = subst (λ (op : Op). access_of op ≡ Some (record { va = va; access = what })) (access_is op va what is) is
 
-pub access_replied : (o : Opening) (past : List Event) (h va : ℕ) (what : Access) → access_reply o past h va what ≡ reply o past h (access_op va what)
-access_replied o past h va accesses.Load = refl
-access_replied o past h va (accesses.Store value) = refl
-access_replied o past h va accesses.Fetch = refl
+pub access_replied : (o : Opening) (past : List Event) (h va : ℕ) (what : Access) → IsReach va what → access_reply o past h va what ≡ reply o past h (access_op va what)
+access_replied o past h va accesses.Load is = refl
+access_replied o past h va (accesses.Store value) is = refl
+access_replied o past h va accesses.Fetch is = refl
+access_replied o past h va (accesses.Amo at amo) is = ap (λ word. access_reply o past h word (accesses.Amo at amo)) (sym (amo_at va at amo is))
 
 -- a history that isn't full has room
 pub room-left : (o : Opening) (past : List Event) → is_full o past ≡ false → length past ≤ o.config.limit → length past < o.config.limit

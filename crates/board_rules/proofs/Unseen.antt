@@ -4,6 +4,8 @@ use Rattle.std.specs.Prelude.{Some, None, filter, is_some, nat_le, not, sum_by, 
 use Rattle.std.specs.List.{list_any, range_with_len}
 use Rattle.std.proofs.lemmas.Bool.{cases_lt, le-leb, leb-false}
 use Rattle.hart_mask.proofs.Sets.{has-ids_where}
+use Rattle.amo.specs.Amos.{amo_size}
+use Rattle.amo.specs.Parts.{word_at}
 use Rattle.sbi_abi.specs.declared.answer.SbiError.TheVariants.{AlreadyAvailable, Failed, InvalidAddress, InvalidParam}
 use Rattle.sbi_abi.specs.declared.call.Call.{Call}
 use Rattle.sbi_abi.specs.declared.call.Call.TheVariants.{Hsm}
@@ -33,7 +35,7 @@ use Rattle.board_rules.specs.Cuts.{IsHeld, IsUnseen, opening_of}
 use Rattle.board_terms.specs.declared.op.Actor.{Actor}
 use Rattle.board_terms.specs.declared.op.Actor.TheVariants.{Hart as OfHart, Clock}
 use Rattle.board_terms.specs.declared.op.Op.{Op}
-use Rattle.board_terms.specs.declared.op.Op.TheVariants.{Ecall, Load, Store, Fetch, ReadSip, Advance}
+use Rattle.board_terms.specs.declared.op.Op.TheVariants.{Ecall, Load, Store, Fetch, Amo, ReadSip, Advance}
 use Rattle.board_terms.specs.declared.reply.Refusal.{Refusal}
 use Rattle.board_terms.specs.declared.reply.Refusal.TheVariants.{Off, WrongPhase}
 use Rattle.board_terms.specs.declared.reply.Reply.{Reply}
@@ -157,6 +159,7 @@ module _ (o : Opening) (past : List Event) (held : IsHeld o past) where
   reply-cut h inside (Load va) = access_reply-cut h inside va accesses.Load
   reply-cut h inside (Store va value) = access_reply-cut h inside va (accesses.Store value)
   reply-cut h inside (Fetch va) = access_reply-cut h inside va accesses.Fetch
+  reply-cut h inside (Amo at amo) = access_reply-cut h inside (word_at (amo_size amo) at) (accesses.Amo at amo)
   reply-cut h inside ReadSip = λ i. Value (interrupt_bits (ssip-cut h inside i) (stip-cut h inside i))
   reply-cut h inside Advance = advance_reply-cut h inside
   reply-cut h inside op = refl

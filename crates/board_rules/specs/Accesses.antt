@@ -1,11 +1,12 @@
 -- The replies of accesses, and the TLB entries that they use (Privileged 4.1.11, 4.2.1, 4.3.2, 4.4, 4.5).
-use Rattle.std.specs.Prelude.{ℕ, List, Option, Some, None, Result, Ok, Err}
+use Rattle.std.specs.Prelude.{ℕ, if◌then◌else◌, List, Option, Some, None, Result, Ok, Err}
+use Rattle.amo.specs.Amos.{reads}
 use Rattle.sv39.specs.declared.cause.Cause.{Cause}
 use Rattle.tlb_model.specs.declared.entry.Address.{Address}
 use Rattle.tlb_model.specs.Entries.{Entry}
 use Rattle.tlb_model.specs.declared.word.FetchWord.{FetchWord}
 use Rattle.hart_access.specs.declared.accesses.Access.{Access}
-use Rattle.hart_access.specs.declared.accesses.Access.TheVariants.{Load, Store, Fetch}
+use Rattle.hart_access.specs.declared.accesses.Access.TheVariants.{Load, Store, Fetch, Amo}
 use Rattle.hart_access.specs.Accesses as whole
 use Rattle.board_rules.specs.Opening.{Opening}
 use Rattle.board_terms.specs.declared.op.Actor.{Actor}
@@ -16,11 +17,12 @@ use Rattle.board_terms.specs.declared.reply.Reply.TheVariants.{Value, Fault, Don
 use Rattle.board_rules.specs.History.{Event, Reach, access_of}
 use Rattle.board_rules.specs.Memory.{cached_in, hit_in, memory, satp, tlb_acts, word_acts}
 
--- The reply of an access: the word read, Done for a store, or why it failed.
+-- The reply of an access: the value read, Done for a store, or why it failed.
 abbrev pub access_reply_of : Access → Result ℕ Cause → Reply
 access_reply_of Load (Ok word) = Value word
 access_reply_of (Store value) (Ok word) = Done
 access_reply_of Fetch (Ok word) = Value word
+access_reply_of (Amo at amo) (Ok old) = if reads amo then Value old else Done
 access_reply_of access (Err cause) = Fault cause
 
 module _ (o : Opening) (past : List Event) (x : ℕ) where

@@ -1,5 +1,8 @@
 -- The memory, satp, and the harts' caches (Privileged 4.1.11, 4.2, 4.3; Zifencei).
 use Rattle.std.specs.Prelude.{ℕ, List, [], ◌∷◌, Bool, if◌then◌else◌, Option, Some, None, option_map, unwrap_or}
+use Rattle.amo.specs.declared.amo.Amo.{Amo}
+use Rattle.amo.specs.Amos.{new_word, amo_size}
+use Rattle.amo.specs.Parts.{word_at}
 use Rattle.sbi_abi.specs.declared.reset.Reset.{Reset}
 use Rattle.rfence.specs.Applied.{Effect, Nothing, Drops, Empties, effect}
 use Rattle.sv39.specs.Memory.{word_in, written, zero_memory}
@@ -53,9 +56,16 @@ pub record Storing : Type 0 where
   pub at : ℕ
   pub value : ℕ
 
--- a write to the memory: of one word, or of 0 to every word
+-- an AMO on a word, with the word's physical address and the AMO's own address
+pub record Changing : Type 0 where
+  pub word : ℕ
+  pub at : ℕ
+  pub amo : Amo
+
+-- a write to the memory: of one word, of what an AMO makes of a word, or of 0 to every word
 pub data Writing : Type 0 where
   Stored : Storing → Writing
+  Changed : Changing → Writing
   Zeroed : Writing
 
 -- A cold reboot writes 0 into every word (profile).
@@ -63,18 +73,27 @@ abbrev pub zeroed_by : Option Reset → Option Writing
 zeroed_by None = None
 zeroed_by (Some reset) = if is_cold reset.kind then Some Zeroed else None
 
--- A store that is Done writes its word at its physical address.
+-- what an AMO writes, by the entry that it used
+abbrev pub changed_by : (at : ℕ) → Amo → Option Entry → Writing
+changed_by at amo used = Changed (record { word = phys_at used (word_at (amo_size amo) at); at = at; amo = amo })
+
+-- A store that is Done writes its word at its physical address. An AMO writes its word if it gave the old value, or is
+-- Done.
 abbrev pub writing_by : Op → Reply → Option Entry → Option Writing
 writing_by (ops.Store va value) replies.Done used = Some (Stored (record { at = phys_at used va; value = value }))
+writing_by (ops.Amo at amo) replies.Done used = Some (changed_by at amo used)
+writing_by (ops.Amo at amo) (replies.Value old) used = Some (changed_by at amo used)
 writing_by op reply used = zeroed_by (reset_by op reply)
 
 abbrev pub written_by : Config → Option Writing → (ℕ → Option ℕ) → ℕ → Option ℕ
 written_by c None memory = memory
 written_by c (Some (Stored storing)) memory = written memory storing.at storing.value
+written_by c (Some (Changed changing)) memory =
+    written memory changing.word (new_word changing.amo changing.at (unwrap_or (memory changing.word) 0))
 written_by c (Some Zeroed) memory = zero_memory c.pages
 
--- The word at a physical address, if the RAM has one: the opening's, until a store writes there or a cold reboot makes
--- it 0 (profile).
+-- The word at a physical address, if the RAM has one: the opening's, until a store or an AMO writes there, or a cold
+-- reboot makes it 0 (profile).
 abbrev pub memory : Opening → List Event → ℕ → Option ℕ
 memory o [] = word_in o.ram
 memory o (event ∷ past) = written_by o.config (writing_by event.op event.reply event.translation) (memory o past)
@@ -108,6 +127,7 @@ abbrev pub entry_filling : Op → (used : Option Entry) → (satp : ℕ) → (hi
 entry_filling (ops.Load va) used satp hit = filling_of (hit (address_by satp va)) used
 entry_filling (ops.Store va value) used satp hit = filling_of (hit (address_by satp va)) used
 entry_filling (ops.Fetch va) used satp hit = filling_of (hit (address_by satp va)) used
+entry_filling (ops.Amo at amo) used satp hit = filling_of (hit (address_by satp (word_at (amo_size amo) at))) used
 entry_filling op used satp hit = None
 
 -- What happened to a hart's TLB since the opening, newest first: one act for each event.

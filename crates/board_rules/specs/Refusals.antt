@@ -10,7 +10,7 @@ use Rattle.board_rules.specs.History.{Event}
 use Rattle.board_terms.specs.declared.op.Actor.{Actor}
 use Rattle.board_terms.specs.declared.op.Actor.TheVariants.{Hart, Clock}
 use Rattle.board_terms.specs.declared.op.Op.{Op}
-use Rattle.board_terms.specs.declared.op.Op.TheVariants.{Ecall, Load, Store, Fetch, WriteSatp, WriteSie, WriteSstatusSie, ReadSip, ClearSsip, Wfi, Sfence, FenceI, Poll, Serve, Advance, Tick}
+use Rattle.board_terms.specs.declared.op.Op.TheVariants.{Ecall, Load, Store, Fetch, Amo, WriteSatp, WriteSie, WriteSstatusSie, ReadSip, ClearSsip, Wfi, Sfence, FenceI, Poll, Serve, Advance, Tick}
 use Rattle.board_terms.specs.declared.reply.Refusal.{Refusal}
 use Rattle.board_terms.specs.declared.reply.Refusal.TheVariants.{Off, WrongPhase, Nothing, HistoryFull, TimeFull}
 use Rattle.board_rules.specs.Fences.{outstanding, waiting}
@@ -38,6 +38,7 @@ is_out_of_phase (Ecall regs) s = not (is_running s)
 is_out_of_phase (Load va) s = not (is_running s)
 is_out_of_phase (Store va value) s = not (is_running s)
 is_out_of_phase (Fetch va) s = not (is_running s)
+is_out_of_phase (Amo at amo) s = not (is_running s)
 is_out_of_phase (WriteSatp value) s = not (is_running s)
 is_out_of_phase (WriteSie value) s = not (is_running s)
 is_out_of_phase (WriteSstatusSie value) s = not (is_running s)

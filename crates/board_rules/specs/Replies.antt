@@ -1,5 +1,7 @@
 -- The answers of steps: a reply (SBI 3 to 10; Privileged 4), or a refusal (profile).
 use Rattle.std.specs.Prelude.{◌≡◌, ℕ, List, [], ◌∷◌, Bool, Option, Some, None, Result, Ok, Err}
+use Rattle.amo.specs.Amos.{amo_size}
+use Rattle.amo.specs.Parts.{word_at}
 use Rattle.sbi_abi.specs.declared.call.Call.{Call}
 use Rattle.sbi_abi.specs.Calls.{call_of}
 use Rattle.hart_access.specs.declared.accesses.Access.TheVariants as accesses
@@ -11,7 +13,7 @@ use Rattle.board_terms.specs.declared.op.Actor.{Actor}
 use Rattle.board_terms.specs.declared.op.Actor.TheVariants.{Hart, Clock}
 use Rattle.board_rules.specs.History.{Event}
 use Rattle.board_terms.specs.declared.op.Op.{Op}
-use Rattle.board_terms.specs.declared.op.Op.TheVariants.{Ecall, Load, Store, Fetch, WriteSatp, WriteSie, WriteSstatusSie, ReadSip, ClearSsip, Wfi, Sfence, FenceI, Poll, Serve, Advance, Tick}
+use Rattle.board_terms.specs.declared.op.Op.TheVariants.{Ecall, Load, Store, Fetch, Amo, WriteSatp, WriteSie, WriteSstatusSie, ReadSip, ClearSsip, Wfi, Sfence, FenceI, Poll, Serve, Advance, Tick}
 use Rattle.board_terms.specs.declared.reply.Refusal.{Refusal}
 use Rattle.board_terms.specs.declared.reply.Reply.{Reply}
 use Rattle.board_terms.specs.declared.reply.Reply.TheVariants.{Ret, Entry, Value, Served, Moved, Done}
@@ -52,6 +54,7 @@ reply o past x (Ecall regs) = call_reply o past x (call_of regs)
 reply o past x (Load va) = access_reply o past x va accesses.Load
 reply o past x (Store va value) = access_reply o past x va (accesses.Store value)
 reply o past x (Fetch va) = access_reply o past x va accesses.Fetch
+reply o past x (Amo at amo) = access_reply o past x (word_at (amo_size amo) at) (accesses.Amo at amo)
 reply o past x (WriteSatp value) = Done
 reply o past x (WriteSie value) = Done
 reply o past x (WriteSstatusSie value) = Done

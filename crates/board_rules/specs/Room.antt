@@ -42,6 +42,7 @@ abbrev pub FitsBeside : Op → (first : ℕ) → Type 0
 FitsBeside (ops.Ecall regs) first = first < 2 ^ 32
 FitsBeside (ops.Load va) first = Unit {0}
 FitsBeside (ops.Fetch va) first = Unit {0}
+FitsBeside (ops.Amo at amo) first = Unit {0}
 FitsBeside ops.ReadSip first = Unit {0}
 FitsBeside ops.Advance first = Unit {0}
 FitsBeside op first = first ≡ 0

@@ -9,6 +9,9 @@ use hart_access::Access;
 use std::marker::Model;
 use tlb_model::Entry;
 
+// (an event takes no more room than a call's registers and eight bytes)
+const _: () = prove!(size_of::<Event>() == 72);
+
 /// An accepted step: its actor, its operation, its reply, and the TLB entry that an access used.
 #[derive(Clone, Copy, Debug, PartialEq, Eq)]
 pub struct Event {
@@ -94,6 +97,7 @@ pub fn access_of(op: Op) -> Option<(u64, Access)>
         Op::Load(va) => Some((va, Access::Load)),
         Op::Store(va, value) => Some((va, Access::Store(value))),
         Op::Fetch(va) => Some((va, Access::Fetch)),
+        Op::Amo(at, amo) => Some((amo.word_at(at), Access::Amo(at, amo))),
         _ => None,
     }
 }

@@ -4,6 +4,7 @@ ghost use Rattle.std.specs.Prelude.{◌≡◌};
 ghost use Rattle.board_rules.specs.Inside.Keeping.{actor_of, first_in, head_in, op_in, opaque_in, opaque_of, reply_of, said_of, used_in, what_of};
 ghost use Rattle.board_rules.specs.Room.{FitsBeside, IsByte, IsByteError, by_of, first_of};
 
+use amo::AmoName;
 use board_terms::{Actor, Op, Reply};
 use hsm::HartState;
 use sbi_abi::{Regs, Sbiret};
@@ -35,14 +36,15 @@ pub struct Head {
 }
 
 /// The operation of a step, and the first number of its reply. An access's entry, a call's eight registers and the
-/// opaque value of an entered advance never occur together, so they share room. The head and a call's value fill the
-/// padding beside the tag.
+/// opaque value of an entered advance never occur together, so they share room. The head, a call's value and an AMO's
+/// name fill the padding beside the tag.
 #[derive(Clone, Copy, Debug, PartialEq, Eq)]
 pub enum What {
     Ecall(Head, u32, Regs),
     Load(Head, u64, u64, Option<Entry>),
     Store(Head, u64, u64, Option<Entry>),
     Fetch(Head, u64, u64, Option<Entry>),
+    Amo(Head, AmoName, u64, u64, u64, u64, Option<Entry>),
     WriteSatp(Head, u64),
     WriteSie(Head, u64),
     WriteSstatusSie(Head, bool),
@@ -142,6 +144,15 @@ impl What {
             Op::Load(va) => What::Load(head, va, first, used),
             Op::Store(va, value) => What::Store(head, va, value, used),
             Op::Fetch(va) => What::Fetch(head, va, first, used),
+            Op::Amo(at, amo) => What::Amo(
+                head,
+                AmoName::of(amo),
+                at,
+                amo.first(),
+                amo.second(),
+                first,
+                used,
+            ),
             Op::WriteSatp(value) => What::WriteSatp(head, value),
             Op::WriteSie(value) => What::WriteSie(head, value),
             Op::WriteSstatusSie(value) => What::WriteSstatusSie(head, value),
@@ -164,6 +175,7 @@ impl What {
         match self {
             What::Ecall(head, ..) => *head,
             What::Load(head, ..) | What::Store(head, ..) | What::Fetch(head, ..) => *head,
+            What::Amo(head, ..) => *head,
             What::WriteSatp(head, _) | What::WriteSie(head, _) => *head,
             What::WriteSstatusSie(head, _) => *head,
             What::ReadSip(head, _) | What::ClearSsip(head) | What::Wfi(head) => *head,
@@ -182,6 +194,7 @@ impl What {
             What::Load(_, va, ..) => Op::Load(va),
             What::Store(_, va, value, _) => Op::Store(va, value),
             What::Fetch(_, va, ..) => Op::Fetch(va),
+            What::Amo(_, name, at, one, two, ..) => Op::Amo(at, name.amo(one, two)),
             What::WriteSatp(_, value) => Op::WriteSatp(value),
             What::WriteSie(_, value) => Op::WriteSie(value),
             What::WriteSstatusSie(_, value) => Op::WriteSstatusSie(value),
@@ -203,6 +216,7 @@ impl What {
     {
         match *self {
             What::Load(.., used) | What::Store(.., used) | What::Fetch(.., used) => used,
+            What::Amo(.., used) => used,
             _ => None,
         }
     }
@@ -214,6 +228,7 @@ impl What {
         match *self {
             What::Ecall(_, first, _) => u64::from(first),
             What::Load(_, _, first, _) | What::Fetch(_, _, first, _) => first,
+            What::Amo(_, _, _, _, _, first, _) => first,
             What::ReadSip(_, first) | What::Advance(_, first, _) => first,
             _ => 0,
         }

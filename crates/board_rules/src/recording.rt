@@ -32,6 +32,9 @@ pub fn record_access(
             events.push_reserved(Event::new(actor, Op::Store(va, value), reply, used))
         }
         Access::Fetch => events.push_reserved(Event::new(actor, Op::Fetch(va), reply, used)),
+        Access::Amo(at, amo) => {
+            events.push_reserved(Event::new(actor, Op::Amo(at, amo), reply, used))
+        }
     }
 }
 

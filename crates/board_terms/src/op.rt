@@ -1,4 +1,5 @@
 //! Actors and operations.
+use amo::Amo;
 use sbi_abi::Regs;
 
 /// Who makes a step.
@@ -21,6 +22,9 @@ pub enum Op {
     Store(u64, u64),
     /// A guest fetches the word of 8 bytes at a virtual address.
     Fetch(u64),
+    /// A guest reads and writes memory at a virtual address in one step, by an AMO or a compare-and-swap; or it stores
+    /// 1, 2 or 4 bytes there (unprivileged ISA 8.4, 2.6; Zacas).
+    Amo(u64, Amo),
     /// A guest writes satp (Privileged 4.1.11). This fences nothing.
     WriteSatp(u64),
     /// A guest writes sie (Privileged 4.1.3).

@@ -1,5 +1,7 @@
 -- A word names one thing at most.
 use Rattle.std.proofs.Common.{◌≡◌, ℕ, List, Option, Some, None, codes, refl, sym, ap, ◌∙◌}
+use Rattle.amo.specs.declared.function.AmoFunction.TheVariants as functions
+use Rattle.amo.specs.declared.name.AmoName.TheVariants as amos
 use Rattle.script_lines.specs.declared.op_name.OpName.{OpName}
 use Rattle.script_lines.specs.declared.op_name.OpName.TheVariants as ops
 use Rattle.script_lines.specs.declared.said_name.SaidName.{SaidName}
@@ -34,6 +36,28 @@ op_own ops.Clearssip = refl
 op_own ops.Sfence = refl
 op_own ops.Fencei = refl
 op_own ops.Wfi = refl
+op_own (ops.Amo (amos.Double functions.Swap)) = refl
+op_own (ops.Amo (amos.Double functions.Add)) = refl
+op_own (ops.Amo (amos.Double functions.And)) = refl
+op_own (ops.Amo (amos.Double functions.Or)) = refl
+op_own (ops.Amo (amos.Double functions.Xor)) = refl
+op_own (ops.Amo (amos.Double functions.Min)) = refl
+op_own (ops.Amo (amos.Double functions.Max)) = refl
+op_own (ops.Amo (amos.Double functions.Minu)) = refl
+op_own (ops.Amo (amos.Double functions.Maxu)) = refl
+op_own (ops.Amo (amos.Half functions.Swap)) = refl
+op_own (ops.Amo (amos.Half functions.Add)) = refl
+op_own (ops.Amo (amos.Half functions.And)) = refl
+op_own (ops.Amo (amos.Half functions.Or)) = refl
+op_own (ops.Amo (amos.Half functions.Xor)) = refl
+op_own (ops.Amo (amos.Half functions.Min)) = refl
+op_own (ops.Amo (amos.Half functions.Max)) = refl
+op_own (ops.Amo (amos.Half functions.Minu)) = refl
+op_own (ops.Amo (amos.Half functions.Maxu)) = refl
+op_own (ops.Amo amos.Cas) = refl
+op_own (ops.Amo amos.Store1) = refl
+op_own (ops.Amo amos.Store2) = refl
+op_own (ops.Amo amos.Store4) = refl
 op_own ops.Poll = refl
 op_own ops.Serve = refl
 op_own ops.Advance = refl

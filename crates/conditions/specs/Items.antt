@@ -1,5 +1,6 @@
 -- An accepted step as words (profile).
 use Rattle.std.specs.Prelude.{ℕ, Bool, true, false, List, [], ◌∷◌, map, Option, Some, None, Ok}
+use Rattle.amo.specs.Amos.{numbers}
 use Rattle.board_terms.specs.declared.op.Actor.{Actor}
 use Rattle.board_terms.specs.declared.op.Actor.TheVariants as actors
 use Rattle.board_terms.specs.declared.op.Op.{Op}
@@ -32,6 +33,7 @@ op_arguments (ops.Ecall regs) = Number regs.eid ∷ Number regs.fid ∷ map Numb
 op_arguments (ops.Load va) = Number va ∷ []
 op_arguments (ops.Store va value) = Number va ∷ Number value ∷ []
 op_arguments (ops.Fetch va) = Number va ∷ []
+op_arguments (ops.Amo at amo) = Number at ∷ map Number (numbers amo)
 op_arguments (ops.WriteSatp value) = Number value ∷ []
 op_arguments (ops.WriteSie value) = Number value ∷ []
 op_arguments (ops.WriteSstatusSie value) = Number (bit value) ∷ []

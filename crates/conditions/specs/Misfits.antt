@@ -1,10 +1,12 @@
 -- Words of patterns that no step of a board can have in their places (profile).
-use Rattle.std.specs.Prelude.{◌≡◌, ◌≢◌, ℕ, ◌≤◌, ◌⊎◌, ◌==◌, ◌||◌, Bool, true, false, List, slice_get, Option, Some}
+use Rattle.std.specs.Prelude.{◌≡◌, ◌≢◌, ℕ, ◌-◌, ◌^◌, ◌≤◌, ◌⊎◌, ◌==◌, nat_lt, nat_le, ◌||◌, ◌&&◌, not, Bool, true, false, List, slice_get, Option, Some}
+use Rattle.amo.specs.declared.name.AmoName.TheVariants as amos
+use Rattle.amo.specs.Names.{reads_by}
 use Rattle.sv39.specs.Causes.{access_fault, cause_number, misaligned, page_fault}
 use Rattle.sv39.specs.declared.cause.Kind.{Kind}
 use Rattle.sv39.specs.declared.cause.Kind.TheVariants as kinds
 use Rattle.script_lines.specs.declared.op_name.OpName.{OpName}
-use Rattle.script_lines.specs.declared.op_name.OpName.TheVariants.{Ecall, Load, Store, Fetch, Satp, Sie, Sstatus, Sip, Clearssip, Sfence, Fencei, Wfi, Poll, Serve, Advance, Tick}
+use Rattle.script_lines.specs.declared.op_name.OpName.TheVariants.{Ecall, Load, Store, Fetch, Satp, Sie, Sstatus, Sip, Clearssip, Sfence, Fencei, Wfi, Amo, Poll, Serve, Advance, Tick}
 use Rattle.script_lines.specs.declared.said_name.SaidName.{SaidName}
 use Rattle.script_lines.specs.declared.said_name.SaidName.TheVariants as saids
 use Rattle.condition_script.specs.declared.items.Item.{Item}
@@ -57,9 +59,10 @@ ReplyCanHave said place (Below n) = (said ≡ saids.Ret) × (place ≡ 1) × (n 
 ReplyCanHave said place Absent = ⊥
 ReplyCanHave said place (Word name) = ⊥
 
--- Whether an accepted operation can have this reply. A call returns, waits or doesn't return (SBI 3). A load and a
--- fetch have a value or a fault, and a store is done or has a fault (Privileged 4.1.8). A poll returns, and a serve is
--- served. An advance enters, moves, or returns from a suspend (SBI 9). A read of sip has a value. All else is done.
+-- Whether an accepted operation can have this reply. A call returns, waits or doesn't return (SBI 3). A load, a fetch
+-- and an AMO have a value or a fault, and a store is done or has a fault (Privileged 4.1.8). A poll returns, and a
+-- serve is served. An advance enters, moves, or returns from a suspend (SBI 9). A read of sip has a value. All else is
+-- done.
 abbrev pub is_reply_to : OpName → SaidName → Bool
 is_reply_to Ecall saids.Ret = true
 is_reply_to Ecall saids.Waiting = true
@@ -70,6 +73,9 @@ is_reply_to Store saids.Done = true
 is_reply_to Store saids.Fault = true
 is_reply_to Fetch saids.Value = true
 is_reply_to Fetch saids.Fault = true
+is_reply_to (Amo name) saids.Value = reads_by name
+is_reply_to (Amo name) saids.Done = not (reads_by name)
+is_reply_to (Amo name) saids.Fault = true
 is_reply_to Satp saids.Done = true
 is_reply_to Sie saids.Done = true
 is_reply_to Sstatus saids.Done = true
@@ -86,21 +92,34 @@ is_reply_to Advance saids.Ret = true
 is_reply_to Tick saids.Done = true
 is_reply_to op said = false
 
--- Whether a number is the cause of a fault of this access.
-abbrev pub IsCauseBy : OpName → ℕ → Type 0
-IsCauseBy op n =
-    (op ≡ Load → is_cause_of kinds.Load n ≡ true) × (op ≡ Store → is_cause_of kinds.Store n ≡ true)
-    × (op ≡ Fetch → is_cause_of kinds.Fetch n ≡ true)
+-- Whether a number is the cause of a fault of this operation's access. A store of 1 byte is aligned at each address.
+abbrev pub is_cause_by : OpName → ℕ → Bool
+is_cause_by Load n = is_cause_of kinds.Load n
+is_cause_by Store n = is_cause_of kinds.Store n
+is_cause_by Fetch n = is_cause_of kinds.Fetch n
+is_cause_by (Amo amos.Store1) n = is_cause_of kinds.Store n && not (n == cause_number (misaligned kinds.Store))
+is_cause_by (Amo name) n = is_cause_of kinds.Store n
+is_cause_by op n = true
 
 -- Whether `sip` can read a number: SSIP is bit 1, STIP bit 5 (Privileged 4.1.3).
 abbrev pub is_pending : ℕ → Bool
 is_pending n = (n == 0 || n == 2) || (n == 32 || n == 34)
 
--- What an operation can have behind the name of its reply: its access's causes; what `sip` can read; and 0, where a fence call or a suspend
+-- Whether a number is 4 bytes sign-extended to 8.
+abbrev pub is_sign_extended : ℕ → Bool
+is_sign_extended n = nat_lt n (2 ^ 31) || nat_le (2 ^ 64 - 2 ^ 31) n
+
+-- Whether an operation can read a number: an AMO on 4 bytes reads them sign-extended (unprivileged ISA 8.4).
+abbrev pub is_value_of : OpName → ℕ → Bool
+is_value_of Sip n = is_pending n
+is_value_of (Amo (amos.Half function)) n = is_sign_extended n
+is_value_of op n = true
+
+-- What an operation can have behind the name of its reply: its access's causes; what it can read; and 0, where a fence call or a suspend
 -- ends (SBI 8, 9). Only a call returns errors.
 abbrev pub CanAnswer : OpName → SaidName → Item → Type 0
 CanAnswer op said (Number n) =
-    (said ≡ saids.Fault → IsCauseBy op n) × (said ≡ saids.Value → op ≡ Sip → is_pending n ≡ true) × (said ≡ saids.Ret → op ≢ Ecall → n ≡ 0)
+    (said ≡ saids.Fault → is_cause_by op n ≡ true) × (said ≡ saids.Value → is_value_of op n ≡ true) × (said ≡ saids.Ret → op ≢ Ecall → n ≡ 0)
 CanAnswer op said (Below n) = op ≡ Ecall
 CanAnswer op said Absent = ⊥
 CanAnswer op said (Word name) = ⊥

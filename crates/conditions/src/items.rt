@@ -1,9 +1,11 @@
 //! The words of an accepted step, one after the other.
 ghost use Rattle.std.specs.Prelude.{◌≡◌, ◌∷◌, [], slice_get};
 ghost use Rattle.conditions.specs.Items.{actor_item, number_or_dash, op_arguments, op_items, reply_items, said_arguments, said_items, step_items};
+ghost use Rattle.board_terms.specs.declared.op.Op.TheVariants as ops;
 ghost use Rattle.board_terms.specs.declared.op.Op.TheVariants.{Ecall};
 ghost use Rattle.condition_script.specs.declared.items.Item.TheVariants as words;
 
+use amo::Amo;
 use board_core::{Actor, Event, Op};
 use condition_script::{Item, Name};
 use sbi_abi::Regs;
@@ -46,12 +48,36 @@ fn op_argument(op: &Op, place: usize) -> Option<Item>
     match op {
         Op::Ecall(regs) => call_argument(regs, place),
         Op::Store(va, value) => item_of(&[Item::Number(*va), Item::Number(*value)], place),
+        Op::Amo(at, amo) => amo_argument(*at, amo, place),
         Op::Sfence(va, asid) => item_of(&[number_or_dash(*va), number_or_dash(*asid)], place),
         Op::Load(n) | Op::Fetch(n) => one(*n, place),
         Op::WriteSatp(n) | Op::WriteSie(n) | Op::Tick(n) => one(*n, place),
         Op::WriteSstatusSie(value) => one(u64::from(*value), place),
         Op::ReadSip | Op::ClearSsip | Op::Wfi | Op::FenceI => None,
         Op::Poll | Op::Serve | Op::Advance => None,
+    }
+}
+
+/// The number in a place of an operation on the word around its address.
+fn amo_argument(at: u64, amo: &Amo, place: usize) -> Option<Item>
+    ensures { result ≡ slice_get (op_arguments (ops.Amo at amo.now)) place }
+{
+    match amo {
+        Amo::Double(_, n) | Amo::Half(_, n) => item_of(
+            &[Item::Number(at), Item::Number(*n)],
+            place,
+        ),
+        Amo::Store1(n) | Amo::Store2(n) | Amo::Store4(n) => {
+            item_of(&[Item::Number(at), Item::Number(*n)], place)
+        }
+        Amo::Cas(expected, value) => item_of(
+            &[
+                Item::Number(at),
+                Item::Number(*expected),
+                Item::Number(*value),
+            ],
+            place,
+        ),
     }
 }
 

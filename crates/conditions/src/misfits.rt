@@ -6,9 +6,10 @@ ghost use Rattle.script_lines.specs.declared.op_name.OpName.{OpName as OpValue};
 ghost use Rattle.script_lines.specs.declared.said_name.SaidName.{SaidName as SaidValue};
 ghost use Rattle.conditions.specs.declared.misfits.Misfit.{Misfit as MisfitValue};
 ghost use Rattle.condition_script.specs.declared.names.Name.TheVariants as names;
-ghost use Rattle.conditions.specs.Misfits.{CanAnswer, CanDo, IsCauseBy, IsActorMisfit, IsAnswerMisfit, IsClocks, IsDoerMisfit, IsMisfit, IsMisfitOf, IsOpMisfit, IsReplyMisfit, IsWordAt, IsWrongAnswer, IsWrongInReply, IsWrongWord, MeansOp, OpCanHave, ReplyCanHave, is_cause, is_cause_of, is_moved_to, is_pending, is_reply_to};
+ghost use Rattle.conditions.specs.Misfits.{CanAnswer, CanDo, IsActorMisfit, IsAnswerMisfit, IsClocks, IsDoerMisfit, IsMisfit, IsMisfitOf, IsOpMisfit, IsReplyMisfit, IsWordAt, IsWrongAnswer, IsWrongInReply, IsWrongWord, MeansOp, OpCanHave, ReplyCanHave, is_cause, is_cause_by, is_cause_of, is_moved_to, is_pending, is_reply_to, is_sign_extended, is_value_of};
 ghost use Rattle.conditions.specs.Inside.Held.{HasAnswer, HasHeldAt, HasNoAnswer, HasRightAt, IsDoneBy, meant, no_reply};
 
+use amo::AmoName;
 use condition_script::{Item, Name, Pattern, Rule};
 use script_lines::{OpName, SaidName};
 use sv39::Kind;
@@ -149,6 +150,11 @@ fn is_reply_to(op: OpName, said: SaidName) -> bool
         OpName::Ecall => matches!(said, SaidName::Ret | SaidName::Waiting | SaidName::Gone),
         OpName::Load | OpName::Fetch => matches!(said, SaidName::Value | SaidName::Fault),
         OpName::Store => matches!(said, SaidName::Done | SaidName::Fault),
+        OpName::Amo(name) => match said {
+            SaidName::Value => name.reads(),
+            SaidName::Done => !name.reads(),
+            _ => said == SaidName::Fault,
+        },
         OpName::Sip => said == SaidName::Value,
         OpName::Poll => said == SaidName::Ret,
         OpName::Serve => said == SaidName::Served,
@@ -373,7 +379,7 @@ fn can_answer(op: OpName, said: SaidName, item: Item) -> bool
     match item {
         Item::Number(n) => match said {
             SaidName::Fault => is_cause_by(op, n),
-            SaidName::Value => op != OpName::Sip || is_pending(n),
+            SaidName::Value => is_value_of(op, n),
             SaidName::Ret => op == OpName::Ecall || n == 0,
             _ => true,
         },
@@ -382,14 +388,29 @@ fn can_answer(op: OpName, said: SaidName, item: Item) -> bool
     }
 }
 
-/// Whether a number is the cause of a fault of this access.
+/// Whether a number is the cause of a fault of this operation's access.
 fn is_cause_by(op: OpName, n: u64) -> bool
-    ensures { (result ≡ true) ↔ IsCauseBy op n }
+    ensures { result ≡ is_cause_by op n }
 {
     match op {
         OpName::Load => is_cause_of(Kind::Load, n),
         OpName::Store => is_cause_of(Kind::Store, n),
         OpName::Fetch => is_cause_of(Kind::Fetch, n),
+        OpName::Amo(AmoName::Store1) => {
+            is_cause_of(Kind::Store, n) && n != Kind::Store.misaligned().number()
+        }
+        OpName::Amo(_) => is_cause_of(Kind::Store, n),
+        _ => true,
+    }
+}
+
+/// Whether an operation can read a number.
+fn is_value_of(op: OpName, n: u64) -> bool
+    ensures { result ≡ is_value_of op n }
+{
+    match op {
+        OpName::Sip => is_pending(n),
+        OpName::Amo(AmoName::Half(_)) => is_sign_extended(n),
         _ => true,
     }
 }
@@ -399,6 +420,13 @@ fn is_pending(n: u64) -> bool
     ensures { result ≡ is_pending n }
 {
     (n == 0 || n == 2) || (n == 32 || n == 34)
+}
+
+/// Whether a number is 4 bytes sign-extended to 8.
+fn is_sign_extended(n: u64) -> bool
+    ensures { result ≡ is_sign_extended n }
+{
+    n < 1 << 31 || n >= 0xffff_ffff_8000_0000
 }
 
 /// Whether a number is the cause of a fault of some access.

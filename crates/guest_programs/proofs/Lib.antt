@@ -7,3 +7,4 @@ pub mod Listing
 pub mod Seeing
 pub mod Accepting
 pub mod Completing
+pub mod SameOps

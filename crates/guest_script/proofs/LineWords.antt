@@ -481,7 +481,7 @@ guest_digit : (name : List ℕ) → is_digit (slice_index name 0) 10 ≡ true �
 unfolding guest_form_of
 guest_digit [] digit = refl
 guest_digit (b ∷ name) digit =
-    rw (no_letter b 101 digit refl, no_letter b 108 digit refl, no_letter b 115 digit refl, no_letter b 102 digit refl, no_letter b 99 digit refl, no_letter b 119 digit refl) refl
+    rw (no_letter b 101 digit refl, no_letter b 108 digit refl, no_letter b 115 digit refl, no_letter b 102 digit refl, no_letter b 99 digit refl, no_letter b 119 digit refl, no_letter b 97 digit refl) refl
 
 guest_none : guest_form_of (codes "c") ≡ None
 unfolding guest_form_of

@@ -36,6 +36,7 @@ name_makes ops.Ecall ns limit enough = rw (at_some ns 0, at_some ns 1, at_some n
 name_makes ops.Load ns limit enough = rw (at_some ns 0) refl
 name_makes ops.Store ns limit enough = rw (at_some ns 0, at_some ns 1) refl
 name_makes ops.Fetch ns limit enough = rw (at_some ns 0) refl
+name_makes (ops.Amo name) ns limit enough = rw (at_some ns 0, at_some ns 1, at_some ns 2) refl
 name_makes ops.Satp ns limit enough = rw (at_some ns 0) refl
 name_makes ops.Sie ns limit enough = rw (at_some ns 0) refl
 name_makes ops.Sip ns limit enough = refl

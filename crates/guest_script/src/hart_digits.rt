@@ -13,11 +13,11 @@ pub fn plain_hart(bytes: &[u8]) -> Option<(u64, &[u8])>
     ensures shorter { IfSome result (λ found. length found.1.now ≤ length bytes.now) }
 {
     let (one, rest) = plain_digit(0, bytes)?;
-    if begins_blank(rest) {
+    if rest.first() == Some(&b' ') {
         return Some((one, rest));
     }
     let (two, rest) = plain_digit(one, rest)?;
-    if begins_blank(rest) {
+    if rest.first() == Some(&b' ') {
         return Some((two, rest));
     }
     let (three, rest) = plain_digit(two, rest)?;
@@ -38,10 +38,4 @@ fn plain_digit(n: u64, bytes: &[u8]) -> Option<(u64, &[u8])>
         }
         [] => None,
     }
-}
-
-/// Whether a blank stands first.
-#[inline(always)]
-fn begins_blank(bytes: &[u8]) -> bool {
-    matches!(bytes, [b' ', ..])
 }

@@ -8,7 +8,7 @@ ghost use Rattle.guest_script.specs.Forms.{form_of, guest_form_of, op_form, said
 ghost use Rattle.guest_script.specs.FirstFault.{acting_tests, actor_test, doing_tests, form_tests, named_tests, number_tests, ret_tests, said_tests, step_tests};
 ghost use Rattle.guest_script.specs.Reading.{tested, told};
 ghost use Rattle.guest_script.specs.Values.{words_until};
-ghost use Rattle.guest_script.specs.declared.wrong.Wrong.TheVariants.{UnknownOperation, WordMissing};
+ghost use Rattle.guest_script.specs.declared.wrong.Wrong.TheVariants.{WordMissing};
 ghost use Rattle.guest_script.specs.Values.{doing_in, actor_in, after_arrow, before_arrow, first_number, line_in, made_by, named_in, op_in, ret_in, said_in, words_in};
 
 use crate::numbers::arguments_in;
@@ -131,7 +131,10 @@ fn op(text: &[u8], until_arrow: bool) -> Result<Op, Unread>
         (op_in (words_until until_arrow (words_in text.now))) }
 {
     let (word, rest) = next_word_until(text, until_arrow).ok_or(missing(text))?;
-    let name = op_name(word).ok_or(unknown_op(word, rest))?;
+    let name = op_name(word).ok_or(Unread {
+        left: from_word(word, rest),
+        wrong: Wrong::UnknownOperation,
+    })?;
     let arguments = arguments_in(rest, until_arrow, &name.places())?;
     Ok(name.op(&arguments))
 }
@@ -141,7 +144,10 @@ pub fn guest_op(word: &[u8], rest: &[u8]) -> Result<Op, Unread>
     ensures { told result ≡ tested (named_tests guest_form_of (word.now ∷ words_in rest.now))
         (named_in guest_form_of Advance (word.now ∷ words_in rest.now)) }
 {
-    let name = guest_name(word).ok_or(unknown_op(word, rest))?;
+    let name = guest_name(word).ok_or(Unread {
+        left: from_word(word, rest),
+        wrong: Wrong::UnknownOperation,
+    })?;
     let arguments = arguments_in(rest, false, &name.places())?;
     Ok(name.op(&arguments))
 }
@@ -254,15 +260,5 @@ fn missing(text: &[u8]) -> Unread
     Unread {
         left: from_next(text),
         wrong: Wrong::WordMissing,
-    }
-}
-
-/// A word is no operation's that may stand there.
-fn unknown_op(word: &[u8], rest: &[u8]) -> Unread
-    ensures { result.wrong ≡ UnknownOperation }
-{
-    Unread {
-        left: from_word(word, rest),
-        wrong: Wrong::UnknownOperation,
     }
 }

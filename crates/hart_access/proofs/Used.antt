@@ -13,7 +13,7 @@ use Rattle.tlb_model.specs.declared.entry.Address.{Address}
 use Rattle.tlb_model.specs.Entries.{Entry}
 use Rattle.tlb_model.specs.declared.word.FetchWord.{FetchWord}
 use Rattle.hart_access.specs.declared.accesses.Access.{Access}
-use Rattle.hart_access.specs.declared.accesses.Access.TheVariants.{Load, Store, Fetch}
+use Rattle.hart_access.specs.declared.accesses.Access.TheVariants.{Load, Store, Fetch, Amo}
 use Rattle.hart_access.specs.declared.way.Way.{Way}
 use Rattle.hart_access.specs.declared.way.Way.TheVariants.{Plain, Hit, Fill, Fault}
 use Rattle.hart_access.specs.Accesses.{fetched_from, filling, place, used, way_of, word_filling, word_filling_by}
@@ -166,6 +166,7 @@ fetched-at : (memory : ℕ → Option ℕ) (words : ℕ → Option FetchWord) (r
     → ((pa : ℕ) → r ≡ Ok pa → is_some (memory pa) ≡ true) → word_filling_by memory words r access ≡ Some fetched → FetchedAt memory words r access fetched
 fetched-at memory words (Ok pa) Load fetched has e = cc
 fetched-at memory words (Ok pa) (Store value) fetched has e = cc
+fetched-at memory words (Ok pa) (Amo at amo) fetched has e = cc
 fetched-at memory words (Ok pa) Fetch fetched has e =
     let parts = from-missed (words pa) pa (unwrap_or (memory pa) 0) fetched e in
     let there = some-word (memory pa) fetched.word (has pa refl) parts.2 in

@@ -2,6 +2,7 @@
 ghost use Rattle.std.specs.Prelude.{◌≡◌};
 ghost use Rattle.hart_access.specs.AccessKinds.{kind_of};
 
+use amo::Amo;
 use sv39::{Cause, Kind};
 use tlb_model::Entry;
 
@@ -14,6 +15,8 @@ pub enum Access {
     Store(u64),
     /// Fetches the word as instructions, through the instruction cache (Zifencei).
     Fetch,
+    /// Reads and writes, in one step, the part of the word that has this address. A store of some bytes only writes.
+    Amo(u64, Amo),
 }
 
 impl Access {
@@ -25,6 +28,7 @@ impl Access {
             Access::Load => Kind::Load,
             Access::Store(_) => Kind::Store,
             Access::Fetch => Kind::Fetch,
+            Access::Amo(_, amo) => { if amo.reads() { Kind::Amo } else { Kind::Store } }
         }
     }
 }
@@ -32,7 +36,7 @@ impl Access {
 /// The result of an access.
 #[derive(Clone, Copy, Debug, PartialEq, Eq)]
 pub struct Accessed {
-    /// The word that was read, or 0 for a store; or why the access failed.
+    /// The value that was read, or 0 for a store; or why the access failed.
     pub result: Result<u64, Cause>,
     /// The TLB entry that translated the address, hit or filled. None: no entry did.
     pub used: Option<Entry>,

@@ -51,7 +51,7 @@ pub fn access(
     }
 }
 
-/// Performs an access at the physical address of a word of the RAM, and returns the word read, or 0 for a store. A word
+/// Performs an access at the physical address of a word of the RAM, and returns what it reads, or 0 for a store. A word
 /// that it fills has this date.
 fn carry_out(ram: &mut Ram, words: &mut ICache, pa: u64, access: Access, date: u64) -> u64
     requires place { IsTrue (is_some (word_in ram.old pa)) }
@@ -69,6 +69,11 @@ fn carry_out(ram: &mut Ram, words: &mut ICache, pa: u64, access: Access, date: u
             0
         }
         Access::Fetch => fetch(ram, words, pa, date),
+        Access::Amo(at, amo) => {
+            let word = ram.load(pa);
+            ram.store(pa, amo.new_word(at, word));
+            amo.old_value(at, word)
+        }
     }
 }
 

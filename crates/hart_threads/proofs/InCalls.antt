@@ -2,7 +2,7 @@
 use Rattle.std.proofs.Common.{◌≡◌, ℕ, Bool, true, false, List, refl, sym, ap, ◌∙◌}
 use Rattle.std.specs.Prelude.{Option, Some, None, is_some, not}
 use Rattle.board_terms.specs.declared.op.Op.{Op}
-use Rattle.board_terms.specs.declared.op.Op.TheVariants.{Ecall, Load, Store, Fetch, WriteSatp, WriteSie, WriteSstatusSie, ReadSip, ClearSsip, Wfi, Sfence, FenceI, Poll, Serve, Advance, Tick}
+use Rattle.board_terms.specs.declared.op.Op.TheVariants.{Ecall, Load, Store, Fetch, Amo, WriteSatp, WriteSie, WriteSstatusSie, ReadSip, ClearSsip, Wfi, Sfence, FenceI, Poll, Serve, Advance, Tick}
 use Rattle.board_core.specs.Refusals.{IsAccepted, Situation, is_running}
 use Rattle.hsm.specs.declared.hart.HartState.TheVariants.{Started}
 use Rattle.hsm.specs.States.{is_started}
@@ -21,6 +21,7 @@ module _ (s : Situation) (harts : List ℕ) (inside : s.call ≡ Some harts) (st
   nothing-happens (Load va) accepted = apart not-running accepted.in_phase
   nothing-happens (Store va value) accepted = apart not-running accepted.in_phase
   nothing-happens (Fetch va) accepted = apart not-running accepted.in_phase
+  nothing-happens (Amo at amo) accepted = apart not-running accepted.in_phase
   nothing-happens (WriteSatp value) accepted = apart not-running accepted.in_phase
   nothing-happens (WriteSie value) accepted = apart not-running accepted.in_phase
   nothing-happens (WriteSstatusSie value) accepted = apart not-running accepted.in_phase

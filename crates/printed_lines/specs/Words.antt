@@ -2,11 +2,12 @@
 use Rattle.std.specs.Prelude.{ℕ, List, [], ◌∷◌, ◌++◌, map, codes, decimal, Bool, false, if◌then◌else◌, Option, Some, None, Result}
 use Rattle.std.specs.Fmt.{digits, signed_decimal}
 use Rattle.std.specs.List.{join_with_byte}
+use Rattle.amo.specs.Amos.{numbers}
 use Rattle.board_terms.specs.declared.config.Config.{Config}
 use Rattle.board_terms.specs.declared.op.Actor.{Actor}
 use Rattle.board_terms.specs.declared.op.Actor.TheVariants.{Hart, Clock}
 use Rattle.board_terms.specs.declared.op.Op.{Op}
-use Rattle.board_terms.specs.declared.op.Op.TheVariants.{Ecall, Load, Store, Fetch, WriteSatp, WriteSie, WriteSstatusSie, ReadSip, ClearSsip, Sfence, FenceI, Wfi, Poll, Serve, Advance, Tick}
+use Rattle.board_terms.specs.declared.op.Op.TheVariants.{Ecall, Load, Store, Fetch, WriteSatp, WriteSie, WriteSstatusSie, ReadSip, ClearSsip, Sfence, FenceI, Wfi, Amo, Poll, Serve, Advance, Tick}
 use Rattle.board_terms.specs.declared.reply.Refusal.{Refusal}
 use Rattle.board_terms.specs.declared.reply.Reply.{Reply}
 use Rattle.board_terms.specs.Limits.{has_usual_spaces}
@@ -40,6 +41,7 @@ argument_words (Ecall regs) = hex regs.eid ∷ hex regs.fid ∷ map hex regs.a
 argument_words (Load va) = hex va ∷ []
 argument_words (Store va value) = hex va ∷ hex value ∷ []
 argument_words (Fetch va) = hex va ∷ []
+argument_words (Amo at amo) = hex at ∷ map hex (numbers amo)
 argument_words (WriteSatp value) = hex value ∷ []
 argument_words (WriteSie value) = hex value ∷ []
 argument_words (WriteSstatusSie value) = decimal (bit_of value) ∷ []

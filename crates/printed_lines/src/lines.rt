@@ -4,6 +4,7 @@ ghost use Rattle.std.specs.List.{join_with_byte};
 ghost use Rattle.printed_lines.specs.LineText.{arguments_room, decimal_room, hex_room, line_room, op_room, page_room, reply_room, with_words};
 ghost use Rattle.printed_lines.specs.Sinks.{Puts};
 ghost use Rattle.printed_lines.specs.Words.{bit_of, hex, hex_or_dash, actor_word, board_line_words, event_words, as_line, line_words, op_words, reply_words, said_words, spaces_words};
+ghost use Rattle.board_terms.specs.declared.op.Op.TheVariants as ops;
 ghost use Rattle.board_terms.specs.declared.op.Op.TheVariants.{Ecall};
 ghost use Rattle.script_lines.specs.declared.said.Said.TheVariants.{Entry, Ret, Value};
 ghost use Rattle.script_lines.specs.declared.script.Doing.TheVariants.{Cut};
@@ -11,6 +12,7 @@ ghost use Rattle.script_lines.specs.declared.script.Doing.TheVariants.{Cut};
 use crate::line_text::LineText;
 use crate::page::Page;
 use crate::sink::{Failed, Sink, write_all};
+use amo::{Amo, AmoName};
 use board_terms::{Actor, Config, Op, Refusal, Reply};
 use sbi_abi::Regs;
 use script_lines::{Doing, OpName, SaidName};
@@ -135,6 +137,7 @@ fn op_onto(line: &mut LineText, op: &Op)
             line.hex(*value);
         }
         Op::Fetch(va) => hex_onto(line, OpName::Fetch.word(), *va),
+        Op::Amo(at, amo) => amo_onto(line, *at, amo),
         Op::WriteSatp(value) => hex_onto(line, OpName::Satp.word(), *value),
         Op::WriteSie(value) => hex_onto(line, OpName::Sie.word(), *value),
         Op::WriteSstatusSie(value) => decimal_onto(line, OpName::Sstatus.word(), bit_of(*value)),
@@ -151,6 +154,25 @@ fn op_onto(line: &mut LineText, op: &Op)
         Op::Serve => line.word(OpName::Serve.word()),
         Op::Advance => line.word(OpName::Advance.word()),
         Op::Tick(n) => hex_onto(line, OpName::Tick.word(), *n),
+    }
+}
+
+/// Appends an operation on the word around its address.
+#[inline(never)]
+fn amo_onto(line: &mut LineText, at: u64, amo: &Amo)
+    requires { length line.old + op_room ≤ page_room }
+    ensures text { line.new ≡ with_words line.old (op_words (ops.Amo at amo.now)) }
+    ensures len { length line.new ≤ length line.old + op_room }
+{
+    line.word(OpName::Amo(AmoName::of(*amo)).word());
+    line.hex(at);
+    match amo {
+        Amo::Double(_, n) | Amo::Half(_, n) => line.hex(*n),
+        Amo::Store1(n) | Amo::Store2(n) | Amo::Store4(n) => line.hex(*n),
+        Amo::Cas(expected, value) => {
+            line.hex(*expected);
+            line.hex(*value);
+        }
     }
 }
 

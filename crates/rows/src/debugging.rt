@@ -1,6 +1,7 @@
 //! What `Debug` writes for each public type that has it, a line each. If a type's fields are private, the line says whether the
 //! text begins with the type's name, and differs for two different values.
 
+use amo::{Amo, AmoFunction, AmoName};
 use anyhow::{Context, Result, bail};
 use board_core::{
     Actor, Board, BuildFault, Config, Op, Phase, Refusal, Reply, Sie, Totals, USUAL_ASID_LEN,
@@ -135,6 +136,9 @@ pub fn show_memory<R: Print>(rt: &R) -> io::Result<()> {
         number: 2,
         item: word,
     };
+    println!(rt; "{:?}", AmoFunction::Minu)?;
+    println!(rt; "{:?}", Amo::Half(AmoFunction::Swap, 9))?;
+    println!(rt; "{:?}", AmoName::Cas)?;
     println!(rt; "{:?}", Kind::Fetch)?;
     println!(rt; "{:?}", Cause::StorePageFault)?;
     println!(rt; "{:?}", Level::Kilo)?;

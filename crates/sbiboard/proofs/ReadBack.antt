@@ -8,6 +8,12 @@ use Rattle.std.proofs.lemmas.Bool.{and_parts, eqb-true}
 use Rattle.std.proofs.lemmas.Fmt.{decimal_is_IsNumeral, digits_is_IsNumeral}
 use Rattle.std.proofs.lemmas.List.{append_assoc, append-nil, length-map}
 use Rattle.std.proofs.lemmas.List.FromFn.{fill_by_all}
+use Rattle.amo.specs.declared.amo.Amo.TheVariants as amos
+use Rattle.amo.specs.declared.function.AmoFunction.{AmoFunction}
+use Rattle.amo.specs.declared.function.AmoFunction.TheVariants as functions
+use Rattle.amo.specs.declared.name.AmoName.{AmoName}
+use Rattle.amo.specs.declared.name.AmoName.TheVariants as amo_names
+use Rattle.amo.specs.Names.{count}
 use Rattle.sbi_abi.specs.declared.call.Regs.{Regs}
 use Rattle.sv39.specs.declared.cause.Cause.{Cause}
 use Rattle.sv39.specs.declared.cause.Cause.TheVariants as causes
@@ -19,24 +25,27 @@ use Rattle.board_terms.specs.declared.config.Config.{Config}
 use Rattle.board_terms.specs.declared.op.Actor.{Actor}
 use Rattle.board_terms.specs.declared.op.Actor.TheVariants.{Hart, Clock}
 use Rattle.board_terms.specs.declared.op.Op.{Op}
-use Rattle.board_terms.specs.declared.op.Op.TheVariants.{Ecall, Load, Store, Fetch, WriteSatp, WriteSie, WriteSstatusSie, ReadSip, ClearSsip, Sfence, FenceI, Wfi, Poll, Serve, Advance, Tick}
+use Rattle.board_terms.specs.declared.op.Op.TheVariants.{Ecall, Load, Store, Fetch, Amo, WriteSatp, WriteSie, WriteSstatusSie, ReadSip, ClearSsip, Sfence, FenceI, Wfi, Poll, Serve, Advance, Tick}
 use Rattle.board_terms.specs.declared.reply.Refusal.{Refusal}
 use Rattle.board_terms.specs.declared.reply.Refusal.TheVariants as refusals
 use Rattle.board_terms.specs.declared.reply.Reply.{Reply}
 use Rattle.board_terms.specs.declared.reply.Reply.TheVariants as replies
 use Rattle.board_terms.specs.Limits.{first_numbers, has_usual_spaces, numbers_of}
 use Rattle.board_core.specs.Refusals.{refusal_number}
+use Rattle.script_lines.specs.declared.op_name.OpName.TheVariants as op_names
 use Rattle.script_lines.specs.declared.said.Said.{Said}
 use Rattle.script_lines.specs.declared.script.Doing.{Doing}
 use Rattle.script_lines.specs.declared.script.Doing.TheVariants.{Step, Cut}
 use Rattle.script_lines.specs.declared.script.Line.{Line}
 use Rattle.script_lines.specs.Agreeing.{said_of}
-use Rattle.guest_script.specs.Forms.{AreArguments, Form, form_of, IsArgument, IsNamed, IsSaid, number_at, regs_of, said_form_of}
+use Rattle.script_lines.specs.Names.{amo_word, op_from}
+use Rattle.guest_script.specs.Forms.{AreArguments, Form, form_of, IsArgument, IsNamed, IsSaid, number_at, op_form, regs_of, said_form_of}
 use Rattle.guest_script.specs.Grammar.{AreLines, Draft, HasUsualSpaces, Nothing, Traced, IsActor, IsDoing, IsStep, content_of}
 use Rattle.guest_script.specs.Words.{AreNumbers, IsLine, IsNumber, last_hart, last_number}
 use Rattle.printed_lines.specs.Words.{actor_word, board_line_words, doing_words, hex, hex_or_dash, as_line, op_words, reply_words}
 use Rattle.sbiboard.specs.PrintedScripts.{ActorFits, Answered, AreComments, FitsActor, FitsAnswer, FitsAnswered, FitsConfig, FitsError, FitsOp, LineReadsBack, NumberReadsBack, OpFits, SignedReadsBack, TraceReadsBack, trace_line, trace_lines, trace_of, answered_words}
-use Rattle.guest_script.proofs.PlainWords.{append_all, arguments_plain, IsPlain, joined_line, lines_printed, name_plain, numbers_plain, spelled_plain}
+use Rattle.guest_script.proofs.Named.{op_forms}
+use Rattle.guest_script.proofs.PlainWords.{append_all, arguments_plain, IsPlain, IsPlainByte, joined_line, lines_printed, name_plain, numbers_plain, spelled_plain}
 
 -- ---- printed numbers
 
@@ -100,6 +109,50 @@ optional_read_back : (n : Option ℕ) → IfSome n (λ m. m ≤ last_number) →
 optional_read_back (Some n) fits = (number_read_back last_number n fits (omega arith)).1
 optional_read_back None fits = (refl, refl)
 
+-- a name with `.w` behind it
+half_plain : (name : List ℕ) → IsPlain name → IsPlain (name ++ codes ".w")
+half_plain [] plain = absurd (plain.0 refl)
+half_plain (b ∷ name) plain = (
+  (λ e. cc),
+  append_all IsPlainByte (b ∷ name) (codes ".w") plain.1
+      (record { allowed = refl; solid = refl; no_hash = refl }, (record { allowed = refl; solid = refl; no_hash = refl }, tt)),
+)
+
+double_plain : (function : AmoFunction) → IsPlain (amo_word (amo_names.Double function))
+double_plain functions.Swap = name_plain (codes "amoswap") (λ e. cc) (omega arith)
+double_plain functions.Add = name_plain (codes "amoadd") (λ e. cc) (omega arith)
+double_plain functions.And = name_plain (codes "amoand") (λ e. cc) (omega arith)
+double_plain functions.Or = name_plain (codes "amoor") (λ e. cc) (omega arith)
+double_plain functions.Xor = name_plain (codes "amoxor") (λ e. cc) (omega arith)
+double_plain functions.Min = name_plain (codes "amomin") (λ e. cc) (omega arith)
+double_plain functions.Max = name_plain (codes "amomax") (λ e. cc) (omega arith)
+double_plain functions.Minu = name_plain (codes "amominu") (λ e. cc) (omega arith)
+double_plain functions.Maxu = name_plain (codes "amomaxu") (λ e. cc) (omega arith)
+
+amo_plain : (name : AmoName) → IsPlain (amo_word name)
+amo_plain (amo_names.Double function) = double_plain function
+amo_plain (amo_names.Half functions.Swap) = half_plain (codes "amoswap") (double_plain functions.Swap)
+amo_plain (amo_names.Half functions.Add) = half_plain (codes "amoadd") (double_plain functions.Add)
+amo_plain (amo_names.Half functions.And) = half_plain (codes "amoand") (double_plain functions.And)
+amo_plain (amo_names.Half functions.Or) = half_plain (codes "amoor") (double_plain functions.Or)
+amo_plain (amo_names.Half functions.Xor) = half_plain (codes "amoxor") (double_plain functions.Xor)
+amo_plain (amo_names.Half functions.Min) = half_plain (codes "amomin") (double_plain functions.Min)
+amo_plain (amo_names.Half functions.Max) = half_plain (codes "amomax") (double_plain functions.Max)
+amo_plain (amo_names.Half functions.Minu) = half_plain (codes "amominu") (double_plain functions.Minu)
+amo_plain (amo_names.Half functions.Maxu) = half_plain (codes "amomaxu") (double_plain functions.Maxu)
+amo_plain amo_names.Cas = name_plain (codes "amocas") (λ e. cc) (omega arith)
+amo_plain amo_names.Store1 = name_plain (codes "store1") (λ e. cc) (omega arith)
+amo_plain amo_names.Store2 = name_plain (codes "store2") (λ e. cc) (omega arith)
+amo_plain amo_names.Store4 = name_plain (codes "store4") (λ e. cc) (omega arith)
+
+-- an operation on the word around its address: the address and its numbers behind its name
+amo_read_back : (name : AmoName) (ns : List ℕ) → length ns ≡ 1 + count name → AllByRecursion (λ n. n ≤ last_number) ns
+    → IsSpelled form_of (amo_word name ∷ map hex ns) (op_from (op_names.Amo name) (map (λ n. Some n) ns))
+amo_read_back name ns same fits =
+    let as_many = length-map ns hex in
+    spelled form_of (amo_word name) (map hex ns) (op_form (op_names.Amo name)) (map (λ n. Some n) ns) (op_forms (op_names.Amo name)).0 (amo_plain name)
+    (omega (arith, as_many, same)) (omega (arith, as_many, same)) (hexes_read_back ns fits)
+
 op_read_back : (op : Op) → FitsOp op → IsSpelled form_of (op_words op) op
 unfolding form_of
 op_read_back (Ecall regs) fits =
@@ -118,6 +171,12 @@ op_read_back (Store va value) fits =
 op_read_back (Fetch va) fits =
     spelled form_of (codes "fetch") (hex va ∷ []) _ (Some va ∷ []) refl (name_plain (codes "fetch") (λ e. cc) (omega arith)) (omega arith) (omega arith)
     ((number_read_back last_number va fits (omega arith)).1, tt)
+op_read_back (Amo at (amos.Double function n)) fits = amo_read_back (amo_names.Double function) (at ∷ n ∷ []) refl fits
+op_read_back (Amo at (amos.Half function n)) fits = amo_read_back (amo_names.Half function) (at ∷ n ∷ []) refl fits
+op_read_back (Amo at (amos.Cas expected value)) fits = amo_read_back amo_names.Cas (at ∷ expected ∷ value ∷ []) refl fits
+op_read_back (Amo at (amos.Store1 n)) fits = amo_read_back amo_names.Store1 (at ∷ n ∷ []) refl fits
+op_read_back (Amo at (amos.Store2 n)) fits = amo_read_back amo_names.Store2 (at ∷ n ∷ []) refl fits
+op_read_back (Amo at (amos.Store4 n)) fits = amo_read_back amo_names.Store4 (at ∷ n ∷ []) refl fits
 op_read_back (WriteSatp value) fits =
     spelled form_of (codes "satp") (hex value ∷ []) _ (Some value ∷ []) refl (name_plain (codes "satp") (λ e. cc) (omega arith)) (omega arith) (omega arith)
     ((number_read_back last_number value fits (omega arith)).1, tt)

@@ -3,13 +3,14 @@ use Rattle.std.specs.Prelude.{◌≡◌, ℕ, suc, ℤ, pos, negsuc, ◌+◌, �
 use Rattle.std.specs.Fmt.{signed_decimal}
 use Rattle.std.specs.List.{AllByRecursion, flat_map, join_with_byte}
 use Rattle.std.specs.Str.Lines.{lines}
+use Rattle.amo.specs.Amos.{numbers}
 use Rattle.board_terms.specs.declared.config.Config.{Config}
 use Rattle.board_terms.specs.Limits.{numbers_of}
 use Rattle.board_core.specs.Opening.{Opening}
 use Rattle.board_terms.specs.declared.op.Actor.{Actor}
 use Rattle.board_terms.specs.declared.op.Actor.TheVariants.{Hart, Clock}
 use Rattle.board_terms.specs.declared.op.Op.{Op}
-use Rattle.board_terms.specs.declared.op.Op.TheVariants.{Ecall, Load, Store, Fetch, WriteSatp, WriteSie, Sfence, Tick}
+use Rattle.board_terms.specs.declared.op.Op.TheVariants.{Ecall, Load, Store, Fetch, Amo, WriteSatp, WriteSie, Sfence, Tick}
 use Rattle.board_terms.specs.declared.reply.Refusal.{Refusal}
 use Rattle.board_terms.specs.declared.reply.Reply.{Reply}
 use Rattle.board_terms.specs.declared.reply.Reply.TheVariants.{Ret, Entry, Value}
@@ -53,6 +54,7 @@ FitsOp (Ecall regs) = (regs.eid ≤ last_number) × (regs.fid ≤ last_number) �
 FitsOp (Load va) = va ≤ last_number
 FitsOp (Store va value) = (va ≤ last_number) × (value ≤ last_number)
 FitsOp (Fetch va) = va ≤ last_number
+FitsOp (Amo at amo) = (at ≤ last_number) × AllByRecursion (λ n. n ≤ last_number) (numbers amo)
 FitsOp (WriteSatp value) = value ≤ last_number
 FitsOp (WriteSie value) = value ≤ last_number
 FitsOp (Sfence va asid) = IfSome va (λ n. n ≤ last_number) × IfSome asid (λ n. n ≤ last_number)

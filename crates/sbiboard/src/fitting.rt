@@ -3,9 +3,11 @@
 
 ghost use Rattle.std.specs.Prelude.{◌≡◌, ◌≤◌, length};
 ghost use Rattle.std.specs.List.{AllByRecursion};
+ghost use Rattle.amo.specs.Amos.{numbers};
 ghost use Rattle.guest_script.specs.Words.{last_number};
 ghost use Rattle.sbiboard.specs.PrintedScripts.{FitsAnswer, FitsOp};
 
+use amo::Amo;
 use board_core::{Op, Refusal, Reply};
 
 /// A law: a script can have the numbers of any operation.
@@ -17,11 +19,26 @@ pub fn op_fits(op: Op)
         Op::Load(_) => {}
         Op::Store(_, _) => {}
         Op::Fetch(_) => {}
+        Op::Amo(_, amo) => amo_fits(amo),
         Op::WriteSatp(_) => {}
         Op::WriteSie(_) => {}
         Op::Sfence(_, _) => {}
         Op::Tick(_) => {}
         _ => {}
+    }
+}
+
+/// A law: so are those of an operation on the word around its address.
+fn amo_fits(amo: Amo)
+    ensures { AllByRecursion (λ n. n ≤ last_number) (numbers amo) }
+{
+    match amo {
+        Amo::Double(_, _) => {}
+        Amo::Half(_, _) => {}
+        Amo::Cas(_, _) => {}
+        Amo::Store1(_) => {}
+        Amo::Store2(_) => {}
+        Amo::Store4(_) => {}
     }
 }
 

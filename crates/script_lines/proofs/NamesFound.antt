@@ -5,6 +5,8 @@ use Rattle.std.specs.Str.{bytes_eq}
 use Rattle.std.proofs.lemmas.Bool.{cases_Bool}
 use Rattle.std.proofs.lemmas.Option.{same_Some}
 use Rattle.std.proofs.lemmas.Slice.Eq.{bytes_eq-Decides}
+use Rattle.amo.specs.declared.function.AmoFunction.TheVariants as functions
+use Rattle.amo.specs.declared.name.AmoName.TheVariants as amos
 use Rattle.script_lines.specs.declared.op_name.OpName.{OpName}
 use Rattle.script_lines.specs.declared.op_name.OpName.TheVariants as ops
 use Rattle.script_lines.specs.declared.said_name.SaidName.{SaidName}
@@ -45,6 +47,28 @@ op_found ops.Clearssip = record { found = refl; guests = refl }
 op_found ops.Sfence = record { found = refl; guests = refl }
 op_found ops.Fencei = record { found = refl; guests = refl }
 op_found ops.Wfi = record { found = refl; guests = refl }
+op_found (ops.Amo (amos.Double functions.Swap)) = record { found = refl; guests = refl }
+op_found (ops.Amo (amos.Double functions.Add)) = record { found = refl; guests = refl }
+op_found (ops.Amo (amos.Double functions.And)) = record { found = refl; guests = refl }
+op_found (ops.Amo (amos.Double functions.Or)) = record { found = refl; guests = refl }
+op_found (ops.Amo (amos.Double functions.Xor)) = record { found = refl; guests = refl }
+op_found (ops.Amo (amos.Double functions.Min)) = record { found = refl; guests = refl }
+op_found (ops.Amo (amos.Double functions.Max)) = record { found = refl; guests = refl }
+op_found (ops.Amo (amos.Double functions.Minu)) = record { found = refl; guests = refl }
+op_found (ops.Amo (amos.Double functions.Maxu)) = record { found = refl; guests = refl }
+op_found (ops.Amo (amos.Half functions.Swap)) = record { found = refl; guests = refl }
+op_found (ops.Amo (amos.Half functions.Add)) = record { found = refl; guests = refl }
+op_found (ops.Amo (amos.Half functions.And)) = record { found = refl; guests = refl }
+op_found (ops.Amo (amos.Half functions.Or)) = record { found = refl; guests = refl }
+op_found (ops.Amo (amos.Half functions.Xor)) = record { found = refl; guests = refl }
+op_found (ops.Amo (amos.Half functions.Min)) = record { found = refl; guests = refl }
+op_found (ops.Amo (amos.Half functions.Max)) = record { found = refl; guests = refl }
+op_found (ops.Amo (amos.Half functions.Minu)) = record { found = refl; guests = refl }
+op_found (ops.Amo (amos.Half functions.Maxu)) = record { found = refl; guests = refl }
+op_found (ops.Amo amos.Cas) = record { found = refl; guests = refl }
+op_found (ops.Amo amos.Store1) = record { found = refl; guests = refl }
+op_found (ops.Amo amos.Store2) = record { found = refl; guests = refl }
+op_found (ops.Amo amos.Store4) = record { found = refl; guests = refl }
 op_found ops.Poll = record { found = refl; guests = refl }
 op_found ops.Serve = record { found = refl; guests = refl }
 op_found ops.Advance = record { found = refl; guests = refl }

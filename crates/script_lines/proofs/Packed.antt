@@ -174,6 +174,7 @@ kept_makes op_shapes.SfenceAsid ns = all_kept op_shapes.SfenceAsid ns (length ns
 kept_makes op_shapes.SfenceBoth ns = all_kept op_shapes.SfenceBoth ns (length ns) refl
 kept_makes op_shapes.FenceI ns = all_kept op_shapes.FenceI ns (length ns) refl
 kept_makes op_shapes.Wfi ns = all_kept op_shapes.Wfi ns (length ns) refl
+kept_makes (op_shapes.Amo name) ns = all_kept (op_shapes.Amo name) ns (length ns) refl
 kept_makes op_shapes.Poll ns = all_kept op_shapes.Poll ns (length ns) refl
 kept_makes op_shapes.Serve ns = all_kept op_shapes.Serve ns (length ns) refl
 kept_makes op_shapes.Advance ns = all_kept op_shapes.Advance ns (length ns) refl

@@ -1,14 +1,18 @@
 -- The one table of operations and replies: the word of each, the numbers that can follow it, whether a guest can do it,
 -- and the resulting value (profile).
-use Rattle.std.specs.Prelude.{ℕ, ◌-◌, ◌^◌, Bool, true, false, ◌==◌, nat_lt, if◌then◌else◌, List, [], ◌∷◌, ◌++◌, length, slice_index_or, codes, Option, None, unwrap_or}
+use Rattle.std.specs.Prelude.{ℕ, ◌+◌, ◌-◌, ◌^◌, Bool, true, false, ◌==◌, nat_lt, if◌then◌else◌, List, [], ◌∷◌, ◌++◌, length, slice_index_or, codes, Option, None, unwrap_or}
 use Rattle.std.specs.Int.{w64, cast_signed}
 use Rattle.std.specs.List.{find}
 use Rattle.std.specs.Str.{bytes_eq}
+use Rattle.amo.specs.declared.function.AmoFunction.TheVariants as functions
+use Rattle.amo.specs.declared.name.AmoName.{AmoName}
+use Rattle.amo.specs.declared.name.AmoName.TheVariants as amos
+use Rattle.amo.specs.Names.{count, made_of, amo_name}
 use Rattle.sbi_abi.specs.declared.call.Regs.{Regs}
 use Rattle.board_terms.specs.declared.op.Op.{Op}
 use Rattle.board_terms.specs.declared.op.Op.TheVariants as ops
 use Rattle.script_lines.specs.declared.op_name.OpName.{OpName}
-use Rattle.script_lines.specs.declared.op_name.OpName.TheVariants.{Ecall, Load, Store, Fetch, Satp, Sie, Sstatus, Sip, Clearssip, Sfence, Fencei, Wfi, Poll, Serve, Advance, Tick}
+use Rattle.script_lines.specs.declared.op_name.OpName.TheVariants.{Ecall, Load, Store, Fetch, Satp, Sie, Sstatus, Sip, Clearssip, Sfence, Fencei, Wfi, Amo, Poll, Serve, Advance, Tick}
 use Rattle.script_lines.specs.declared.places.Places.{Places}
 use Rattle.script_lines.specs.declared.places.TheConstants.{LAST_HART}
 use Rattle.script_lines.specs.declared.said.Said.{Said}
@@ -48,6 +52,33 @@ by_word word_of names word = find (λ name. bytes_eq word (word_of name)) names
 
 -- ---- operations
 
+-- the operations on the word around an address: AMOs on 8 and 4 bytes, a compare-and-swap, and stores of some bytes
+abbrev pub amo_ops : List OpName
+amo_ops =
+    Amo (amos.Double functions.Swap)
+    ∷ Amo (amos.Double functions.Add)
+    ∷ Amo (amos.Double functions.And)
+    ∷ Amo (amos.Double functions.Or)
+    ∷ Amo (amos.Double functions.Xor)
+    ∷ Amo (amos.Double functions.Min)
+    ∷ Amo (amos.Double functions.Max)
+    ∷ Amo (amos.Double functions.Minu)
+    ∷ Amo (amos.Double functions.Maxu)
+    ∷ Amo (amos.Half functions.Swap)
+    ∷ Amo (amos.Half functions.Add)
+    ∷ Amo (amos.Half functions.And)
+    ∷ Amo (amos.Half functions.Or)
+    ∷ Amo (amos.Half functions.Xor)
+    ∷ Amo (amos.Half functions.Min)
+    ∷ Amo (amos.Half functions.Max)
+    ∷ Amo (amos.Half functions.Minu)
+    ∷ Amo (amos.Half functions.Maxu)
+    ∷ Amo amos.Cas
+    ∷ Amo amos.Store1
+    ∷ Amo amos.Store2
+    ∷ Amo amos.Store4
+    ∷ []
+
 -- the operations of guests, and those of a hart's firmware and the clock
 abbrev pub guest_ops : List OpName
 guest_ops =
@@ -63,7 +94,7 @@ guest_ops =
     ∷ Sfence
     ∷ Fencei
     ∷ Wfi
-    ∷ []
+    ∷ amo_ops
 
 abbrev pub firmware_ops : List OpName
 firmware_ops = Poll ∷ Serve ∷ Advance ∷ Tick ∷ []
@@ -71,6 +102,31 @@ firmware_ops = Poll ∷ Serve ∷ Advance ∷ Tick ∷ []
 -- all of them
 abbrev pub op_names : List OpName
 op_names = guest_ops ++ firmware_ops
+
+-- the word that names an operation on the word around its address; `.w` is for 4 bytes
+abbrev pub amo_word : AmoName → List ℕ
+amo_word (amos.Double functions.Swap) = codes "amoswap"
+amo_word (amos.Double functions.Add) = codes "amoadd"
+amo_word (amos.Double functions.And) = codes "amoand"
+amo_word (amos.Double functions.Or) = codes "amoor"
+amo_word (amos.Double functions.Xor) = codes "amoxor"
+amo_word (amos.Double functions.Min) = codes "amomin"
+amo_word (amos.Double functions.Max) = codes "amomax"
+amo_word (amos.Double functions.Minu) = codes "amominu"
+amo_word (amos.Double functions.Maxu) = codes "amomaxu"
+amo_word (amos.Half functions.Swap) = codes "amoswap.w"
+amo_word (amos.Half functions.Add) = codes "amoadd.w"
+amo_word (amos.Half functions.And) = codes "amoand.w"
+amo_word (amos.Half functions.Or) = codes "amoor.w"
+amo_word (amos.Half functions.Xor) = codes "amoxor.w"
+amo_word (amos.Half functions.Min) = codes "amomin.w"
+amo_word (amos.Half functions.Max) = codes "amomax.w"
+amo_word (amos.Half functions.Minu) = codes "amominu.w"
+amo_word (amos.Half functions.Maxu) = codes "amomaxu.w"
+amo_word amos.Cas = codes "amocas"
+amo_word amos.Store1 = codes "store1"
+amo_word amos.Store2 = codes "store2"
+amo_word amos.Store4 = codes "store4"
 
 -- the word that names an operation
 abbrev pub op_word : OpName → List ℕ
@@ -86,6 +142,7 @@ op_word Clearssip = codes "clearssip"
 op_word Sfence = codes "sfence"
 op_word Fencei = codes "fencei"
 op_word Wfi = codes "wfi"
+op_word (Amo name) = amo_word name
 op_word Poll = codes "poll"
 op_word Serve = codes "serve"
 op_word Advance = codes "advance"
@@ -105,6 +162,7 @@ op_places Clearssip = any_numbers 0 0
 op_places Sfence = record { least = 2; most = 2; limit = last_number; may_be_absent = true }
 op_places Fencei = any_numbers 0 0
 op_places Wfi = any_numbers 0 0
+op_places (Amo name) = any_numbers (1 + count name) (1 + count name)
 op_places Poll = any_numbers 0 0
 op_places Serve = any_numbers 0 0
 op_places Advance = any_numbers 0 0
@@ -140,6 +198,7 @@ op_from Clearssip ns = ops.ClearSsip
 op_from Sfence ns = ops.Sfence (argument_at ns 0) (argument_at ns 1)
 op_from Fencei ns = ops.FenceI
 op_from Wfi ns = ops.Wfi
+op_from (Amo name) ns = ops.Amo (number_at ns 0) (made_of name (number_at ns 1) (number_at ns 2))
 op_from Poll ns = ops.Poll
 op_from Serve ns = ops.Serve
 op_from Advance ns = ops.Advance
@@ -159,6 +218,7 @@ name_of ops.ClearSsip = Clearssip
 name_of (ops.Sfence va asid) = Sfence
 name_of ops.FenceI = Fencei
 name_of ops.Wfi = Wfi
+name_of (ops.Amo at amo) = Amo (amo_name amo)
 name_of ops.Poll = Poll
 name_of ops.Serve = Serve
 name_of ops.Advance = Advance

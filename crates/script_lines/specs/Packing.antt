@@ -1,6 +1,8 @@
 -- The packed form of a line: its shape, and its numbers among those of all lines (profile).
 use Rattle.std.specs.Prelude.{ℕ, suc, ◌<◌, true, false, ◌&&◌, if◌then◌else◌, ◌==◌, List, [], ◌∷◌, ◌++◌, take, length, slice_index_or, Option, Some, None}
 use Rattle.std.specs.Int.{w64, cast_signed, cast_unsigned}
+use Rattle.amo.specs.Amos.{numbers}
+use Rattle.amo.specs.Names.{amo_name, made_of}
 use Rattle.board_terms.specs.declared.op.Actor.{Actor}
 use Rattle.board_terms.specs.declared.op.Actor.TheVariants.{Hart, Clock}
 use Rattle.board_terms.specs.declared.op.Op.{Op}
@@ -12,7 +14,7 @@ use Rattle.script_lines.specs.declared.line_shape.ActorShape.TheVariants as acto
 use Rattle.script_lines.specs.declared.op_name.OpName.{OpName}
 use Rattle.script_lines.specs.declared.op_name.OpName.TheVariants as names
 use Rattle.script_lines.specs.declared.op_shape.OpShape.{OpShape}
-use Rattle.script_lines.specs.declared.op_shape.OpShape.TheVariants.{Ecall, Load, Store, Fetch, WriteSatp, WriteSie, SstatusOff, SstatusOn, ReadSip, ClearSsip, SfenceAll, SfenceAddress, SfenceAsid, SfenceBoth, FenceI, Wfi, Poll, Serve, Advance, Tick}
+use Rattle.script_lines.specs.declared.op_shape.OpShape.TheVariants.{Ecall, Load, Store, Fetch, WriteSatp, WriteSie, SstatusOff, SstatusOn, ReadSip, ClearSsip, SfenceAll, SfenceAddress, SfenceAsid, SfenceBoth, FenceI, Wfi, Amo, Poll, Serve, Advance, Tick}
 use Rattle.script_lines.specs.declared.said.Said.{Said}
 use Rattle.script_lines.specs.declared.said.Said.TheVariants as says
 use Rattle.script_lines.specs.declared.said_name.SaidName.{SaidName}
@@ -51,6 +53,7 @@ shape_of (ops.Sfence None (Some asid)) = SfenceAsid
 shape_of (ops.Sfence (Some va) (Some asid)) = SfenceBoth
 shape_of ops.FenceI = FenceI
 shape_of ops.Wfi = Wfi
+shape_of (ops.Amo at amo) = Amo (amo_name amo)
 shape_of ops.Poll = Poll
 shape_of ops.Serve = Serve
 shape_of ops.Advance = Advance
@@ -70,6 +73,7 @@ named_shape names.Clearssip = ClearSsip
 named_shape names.Sfence = SfenceBoth
 named_shape names.Fencei = FenceI
 named_shape names.Wfi = Wfi
+named_shape (names.Amo name) = Amo name
 named_shape names.Poll = Poll
 named_shape names.Serve = Serve
 named_shape names.Advance = Advance
@@ -94,6 +98,7 @@ op_numbers ops.ClearSsip = []
 op_numbers (ops.Sfence va asid) = given va ++ given asid
 op_numbers ops.FenceI = []
 op_numbers ops.Wfi = []
+op_numbers (ops.Amo at amo) = at ∷ numbers amo
 op_numbers ops.Poll = []
 op_numbers ops.Serve = []
 op_numbers ops.Advance = []
@@ -122,6 +127,7 @@ op_made SfenceAsid ns = ops.Sfence None (Some (number_from ns 0))
 op_made SfenceBoth ns = ops.Sfence (Some (number_from ns 0)) (Some (number_from ns 1))
 op_made FenceI ns = ops.FenceI
 op_made Wfi ns = ops.Wfi
+op_made (Amo name) ns = ops.Amo (number_from ns 0) (made_of name (number_from ns 1) (number_from ns 2))
 op_made Poll ns = ops.Poll
 op_made Serve ns = ops.Serve
 op_made Advance ns = ops.Advance

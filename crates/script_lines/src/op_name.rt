@@ -1,11 +1,12 @@
 //! Operations by their names: the word of each, the numbers that can follow it, and whether a guest can do it.
 ghost use Rattle.std.specs.Prelude.{◌≡◌, ◌≤◌, MatchOption, None, length};
-ghost use Rattle.script_lines.specs.Names.{is_guests, name_of, op_from, op_named, op_places, op_word, regs_of};
+ghost use Rattle.script_lines.specs.Names.{amo_word, is_guests, name_of, op_from, op_named, op_places, op_word, regs_of};
 ghost use Rattle.script_lines.specs.Packing.{named_shape};
 
 use crate::op_shape::{OP_NUMBERS, OpShape};
 use crate::places::{Places, any_numbers, argument_at, number_at};
 use crate::words;
+use amo::{AmoFunction, AmoName};
 use board_terms::Op;
 use sbi_abi::Regs;
 
@@ -36,6 +37,8 @@ pub enum OpName {
     Fencei,
     /// `wfi`
     Wfi,
+    /// `amoswap` to `amomaxu`, the same with `.w`, `amocas`, `store1`, `store2` and `store4`
+    Amo(AmoName),
     /// `poll`
     Poll,
     /// `serve`
@@ -47,7 +50,7 @@ pub enum OpName {
 }
 
 /// All names, those of guests' operations first.
-const OP_NAMES: [OpName; 16] = [
+const OP_NAMES: [OpName; 38] = [
     OpName::Ecall,
     OpName::Load,
     OpName::Store,
@@ -60,6 +63,28 @@ const OP_NAMES: [OpName; 16] = [
     OpName::Sfence,
     OpName::Fencei,
     OpName::Wfi,
+    OpName::Amo(AmoName::Double(AmoFunction::Swap)),
+    OpName::Amo(AmoName::Double(AmoFunction::Add)),
+    OpName::Amo(AmoName::Double(AmoFunction::And)),
+    OpName::Amo(AmoName::Double(AmoFunction::Or)),
+    OpName::Amo(AmoName::Double(AmoFunction::Xor)),
+    OpName::Amo(AmoName::Double(AmoFunction::Min)),
+    OpName::Amo(AmoName::Double(AmoFunction::Max)),
+    OpName::Amo(AmoName::Double(AmoFunction::Minu)),
+    OpName::Amo(AmoName::Double(AmoFunction::Maxu)),
+    OpName::Amo(AmoName::Half(AmoFunction::Swap)),
+    OpName::Amo(AmoName::Half(AmoFunction::Add)),
+    OpName::Amo(AmoName::Half(AmoFunction::And)),
+    OpName::Amo(AmoName::Half(AmoFunction::Or)),
+    OpName::Amo(AmoName::Half(AmoFunction::Xor)),
+    OpName::Amo(AmoName::Half(AmoFunction::Min)),
+    OpName::Amo(AmoName::Half(AmoFunction::Max)),
+    OpName::Amo(AmoName::Half(AmoFunction::Minu)),
+    OpName::Amo(AmoName::Half(AmoFunction::Maxu)),
+    OpName::Amo(AmoName::Cas),
+    OpName::Amo(AmoName::Store1),
+    OpName::Amo(AmoName::Store2),
+    OpName::Amo(AmoName::Store4),
     OpName::Poll,
     OpName::Serve,
     OpName::Advance,
@@ -93,6 +118,7 @@ impl OpName {
             OpName::Sfence => words::SFENCE,
             OpName::Fencei => words::FENCEI,
             OpName::Wfi => words::WFI,
+            OpName::Amo(name) => amo_word(name),
             OpName::Poll => words::POLL,
             OpName::Serve => words::SERVE,
             OpName::Advance => words::ADVANCE,
@@ -123,6 +149,7 @@ impl OpName {
             OpName::Load | OpName::Fetch | OpName::Satp => any_numbers(1, 1),
             OpName::Sie | OpName::Tick => any_numbers(1, 1),
             OpName::Store => any_numbers(2, 2),
+            OpName::Amo(name) => any_numbers(1 + name.count(), 1 + name.count()),
             OpName::Sip | OpName::Clearssip | OpName::Fencei => any_numbers(0, 0),
             OpName::Wfi | OpName::Poll => any_numbers(0, 0),
             OpName::Serve | OpName::Advance => any_numbers(0, 0),
@@ -157,6 +184,10 @@ impl OpName {
             OpName::Sfence => Op::Sfence(argument_at(arguments, 0), argument_at(arguments, 1)),
             OpName::Fencei => Op::FenceI,
             OpName::Wfi => Op::Wfi,
+            OpName::Amo(name) => Op::Amo(
+                number_at(arguments, 0),
+                name.amo(number_at(arguments, 1), number_at(arguments, 2)),
+            ),
             OpName::Poll => Op::Poll,
             OpName::Serve => Op::Serve,
             OpName::Advance => Op::Advance,
@@ -182,6 +213,7 @@ impl OpName {
             Op::Sfence(..) => OpName::Sfence,
             Op::FenceI => OpName::Fencei,
             Op::Wfi => OpName::Wfi,
+            Op::Amo(_, amo) => OpName::Amo(AmoName::of(*amo)),
             Op::Poll => OpName::Poll,
             Op::Serve => OpName::Serve,
             Op::Advance => OpName::Advance,
@@ -207,11 +239,43 @@ impl OpName {
             OpName::Sfence => OpShape::SfenceBoth,
             OpName::Fencei => OpShape::FenceI,
             OpName::Wfi => OpShape::Wfi,
+            OpName::Amo(name) => OpShape::Amo(name),
             OpName::Poll => OpShape::Poll,
             OpName::Serve => OpShape::Serve,
             OpName::Advance => OpShape::Advance,
             OpName::Tick => OpShape::Tick,
         }
+    }
+}
+
+/// The word of an operation on the word around its address.
+fn amo_word(name: AmoName) -> &'static [u8]
+    ensures word { result.now ≡ amo_word name }
+    ensures len { length result.now ≤ 9 }
+{
+    match name {
+        AmoName::Double(AmoFunction::Swap) => words::AMOSWAP,
+        AmoName::Double(AmoFunction::Add) => words::AMOADD,
+        AmoName::Double(AmoFunction::And) => words::AMOAND,
+        AmoName::Double(AmoFunction::Or) => words::AMOOR,
+        AmoName::Double(AmoFunction::Xor) => words::AMOXOR,
+        AmoName::Double(AmoFunction::Min) => words::AMOMIN,
+        AmoName::Double(AmoFunction::Max) => words::AMOMAX,
+        AmoName::Double(AmoFunction::Minu) => words::AMOMINU,
+        AmoName::Double(AmoFunction::Maxu) => words::AMOMAXU,
+        AmoName::Half(AmoFunction::Swap) => words::AMOSWAP_W,
+        AmoName::Half(AmoFunction::Add) => words::AMOADD_W,
+        AmoName::Half(AmoFunction::And) => words::AMOAND_W,
+        AmoName::Half(AmoFunction::Or) => words::AMOOR_W,
+        AmoName::Half(AmoFunction::Xor) => words::AMOXOR_W,
+        AmoName::Half(AmoFunction::Min) => words::AMOMIN_W,
+        AmoName::Half(AmoFunction::Max) => words::AMOMAX_W,
+        AmoName::Half(AmoFunction::Minu) => words::AMOMINU_W,
+        AmoName::Half(AmoFunction::Maxu) => words::AMOMAXU_W,
+        AmoName::Cas => words::AMOCAS,
+        AmoName::Store1 => words::STORE1,
+        AmoName::Store2 => words::STORE2,
+        AmoName::Store4 => words::STORE4,
     }
 }
 

@@ -2,6 +2,7 @@
 ghost use Rattle.std.specs.Prelude.{◌≡◌, ◌+◌, ◌≤◌, ◌++◌, ◌∷◌, [], take, length, vec_len, vec_capacity};
 ghost use Rattle.script_lines.specs.Packing.{kept_count, number_from, op_made, op_numbers, shape_of, used};
 
+use amo::{Amo, AmoName};
 use board_terms::Op;
 use sbi_abi::Regs;
 
@@ -27,6 +28,7 @@ pub enum OpShape {
     SfenceBoth,
     FenceI,
     Wfi,
+    Amo(AmoName),
     Poll,
     Serve,
     Advance,
@@ -76,6 +78,7 @@ impl OpShape {
             Op::Sfence(va, asid) => put_fence(va, asid, numbers),
             Op::FenceI => OpShape::FenceI,
             Op::Wfi => OpShape::Wfi,
+            Op::Amo(at, amo) => put_amo(at, amo, numbers),
             Op::Poll => OpShape::Poll,
             Op::Serve => OpShape::Serve,
             Op::Advance => OpShape::Advance,
@@ -100,7 +103,7 @@ impl OpShape {
             OpShape::ReadSip | OpShape::ClearSsip => numbers.len(),
             OpShape::SfenceAll | OpShape::SfenceAddress => numbers.len(),
             OpShape::SfenceAsid | OpShape::SfenceBoth => numbers.len(),
-            OpShape::FenceI | OpShape::Wfi | OpShape::Poll => numbers.len(),
+            OpShape::FenceI | OpShape::Wfi | OpShape::Amo(_) | OpShape::Poll => numbers.len(),
             OpShape::Serve | OpShape::Advance | OpShape::Tick => numbers.len(),
         }
     }
@@ -130,6 +133,10 @@ impl OpShape {
             ),
             OpShape::FenceI => Op::FenceI,
             OpShape::Wfi => Op::Wfi,
+            OpShape::Amo(name) => Op::Amo(
+                number_from(numbers, 0),
+                name.amo(number_from(numbers, 1), number_from(numbers, 2)),
+            ),
             OpShape::Poll => Op::Poll,
             OpShape::Serve => Op::Serve,
             OpShape::Advance => Op::Advance,
@@ -175,6 +182,45 @@ fn put_two(first: u64, second: u64, numbers: &mut Vec<u64>)
 {
     numbers.push_reserved(first);
     numbers.push_reserved(second);
+}
+
+/// Appends the address and the numbers of an operation on the word around its address, and returns its shape.
+fn put_amo(at: u64, amo: Amo, numbers: &mut Vec<u64>) -> OpShape
+    requires { vec_len numbers.old + 3 ≤ vec_capacity numbers.old }
+    ensures shape { result ≡ shape_of (Op.Amo at amo) }
+    ensures numbers { numbers.new.items ≡ numbers.old.items ++ op_numbers (Op.Amo at amo) }
+    ensures made { op_made result (op_numbers (Op.Amo at amo)) ≡ Op.Amo at amo }
+    ensures len { vec_len numbers.new ≤ vec_len numbers.old + 3 }
+    ensures more { vec_len numbers.old ≤ vec_len numbers.new }
+    ensures capacity { vec_capacity numbers.new ≡ vec_capacity numbers.old }
+{
+    match amo {
+        Amo::Double(function, operand) => {
+            put_two(at, operand, numbers);
+            OpShape::Amo(AmoName::Double(function))
+        }
+        Amo::Half(function, operand) => {
+            put_two(at, operand, numbers);
+            OpShape::Amo(AmoName::Half(function))
+        }
+        Amo::Cas(expected, value) => {
+            put_two(at, expected, numbers);
+            numbers.push_reserved(value);
+            OpShape::Amo(AmoName::Cas)
+        }
+        Amo::Store1(value) => {
+            put_two(at, value, numbers);
+            OpShape::Amo(AmoName::Store1)
+        }
+        Amo::Store2(value) => {
+            put_two(at, value, numbers);
+            OpShape::Amo(AmoName::Store2)
+        }
+        Amo::Store4(value) => {
+            put_two(at, value, numbers);
+            OpShape::Amo(AmoName::Store4)
+        }
+    }
 }
 
 /// Appends the numbers of a local fence, and returns its shape, which says which numbers it has.

@@ -37,6 +37,72 @@ pub const FENCEI: &[u8] = b"fencei";
 pub const WFI: &[u8] = b"wfi";
 
 /// An operation's word.
+pub const AMOSWAP: &[u8] = b"amoswap";
+
+/// An operation's word.
+pub const AMOADD: &[u8] = b"amoadd";
+
+/// An operation's word.
+pub const AMOAND: &[u8] = b"amoand";
+
+/// An operation's word.
+pub const AMOOR: &[u8] = b"amoor";
+
+/// An operation's word.
+pub const AMOXOR: &[u8] = b"amoxor";
+
+/// An operation's word.
+pub const AMOMIN: &[u8] = b"amomin";
+
+/// An operation's word.
+pub const AMOMAX: &[u8] = b"amomax";
+
+/// An operation's word.
+pub const AMOMINU: &[u8] = b"amominu";
+
+/// An operation's word.
+pub const AMOMAXU: &[u8] = b"amomaxu";
+
+/// An operation's word.
+pub const AMOSWAP_W: &[u8] = b"amoswap.w";
+
+/// An operation's word.
+pub const AMOADD_W: &[u8] = b"amoadd.w";
+
+/// An operation's word.
+pub const AMOAND_W: &[u8] = b"amoand.w";
+
+/// An operation's word.
+pub const AMOOR_W: &[u8] = b"amoor.w";
+
+/// An operation's word.
+pub const AMOXOR_W: &[u8] = b"amoxor.w";
+
+/// An operation's word.
+pub const AMOMIN_W: &[u8] = b"amomin.w";
+
+/// An operation's word.
+pub const AMOMAX_W: &[u8] = b"amomax.w";
+
+/// An operation's word.
+pub const AMOMINU_W: &[u8] = b"amominu.w";
+
+/// An operation's word.
+pub const AMOMAXU_W: &[u8] = b"amomaxu.w";
+
+/// An operation's word.
+pub const AMOCAS: &[u8] = b"amocas";
+
+/// An operation's word.
+pub const STORE1: &[u8] = b"store1";
+
+/// An operation's word.
+pub const STORE2: &[u8] = b"store2";
+
+/// An operation's word.
+pub const STORE4: &[u8] = b"store4";
+
+/// An operation's word.
 pub const POLL: &[u8] = b"poll";
 
 /// An operation's word.

@@ -30,6 +30,7 @@ is-named (ops.Ecall regs) = inl refl
 is-named (ops.Load va) = inl refl
 is-named (ops.Store va value) = inl refl
 is-named (ops.Fetch va) = inl refl
+is-named (ops.Amo at amo) = inl refl
 is-named (ops.WriteSatp value) = inl refl
 is-named (ops.WriteSie value) = inl refl
 is-named (ops.WriteSstatusSie value) = inl refl

@@ -11,6 +11,8 @@ pub enum Kind {
     Load,
     /// A store.
     Store,
+    /// An access that reads and writes in one step: an AMO.
+    Amo,
 }
 
 impl Kind {
@@ -21,7 +23,7 @@ impl Kind {
         match self {
             Kind::Fetch => Cause::InstructionAddressMisaligned,
             Kind::Load => Cause::LoadAddressMisaligned,
-            Kind::Store => Cause::StoreAddressMisaligned,
+            Kind::Store | Kind::Amo => Cause::StoreAddressMisaligned,
         }
     }
 
@@ -32,7 +34,7 @@ impl Kind {
         match self {
             Kind::Fetch => Cause::InstructionAccessFault,
             Kind::Load => Cause::LoadAccessFault,
-            Kind::Store => Cause::StoreAccessFault,
+            Kind::Store | Kind::Amo => Cause::StoreAccessFault,
         }
     }
 
@@ -43,7 +45,7 @@ impl Kind {
         match self {
             Kind::Fetch => Cause::InstructionPageFault,
             Kind::Load => Cause::LoadPageFault,
-            Kind::Store => Cause::StorePageFault,
+            Kind::Store | Kind::Amo => Cause::StorePageFault,
         }
     }
 }

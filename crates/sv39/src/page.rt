@@ -86,7 +86,7 @@ pub struct Leaf {
     pub w: bool,
     /// X: instructions may be fetched from the page.
     pub x: bool,
-    /// D: the page is dirty, which a store needs.
+    /// D: the page is dirty, which a store and an AMO need.
     pub d: bool,
 }
 
@@ -99,6 +99,7 @@ impl Leaf {
             Kind::Fetch => self.x,
             Kind::Load => self.r,
             Kind::Store => self.w && self.d,
+            Kind::Amo => self.r && self.w && self.d,
         }
     }
 }

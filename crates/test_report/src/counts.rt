@@ -50,7 +50,7 @@ impl Counts {
     }
 
     /// How many they are.
-    fn all(&self) -> u128 {
+    pub(crate) fn all(&self) -> u128 {
         self.off
             .saturating_add(self.quiet)
             .saturating_add(self.stuck)
@@ -107,16 +107,6 @@ pub enum AllOrders {
     Counted(Counts),
     /// Some come back to a state, and so are endless; the others, if any, end at this many states.
     Endless(Counts),
-}
-
-impl AllOrders {
-    /// How many they are, where they were counted.
-    pub(crate) fn many(&self) -> Option<u128> {
-        match self {
-            AllOrders::Counted(orders) => Some(orders.all()),
-            AllOrders::Endless(_) => None,
-        }
-    }
 }
 
 /// `35, quiet 30, stuck 5`, or `some without end, some quiet`, or `all without end`.

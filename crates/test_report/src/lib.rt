@@ -19,7 +19,7 @@ mod verdict;
 
 pub use counts::{AllOrders, Counts};
 pub use details::{Detail, Difference, Unwritten};
-pub use missing::Missing;
+pub use missing::{Missing, lack_of};
 pub use notes::{Given, LoadGave, Note, Outcome, Stale};
 pub use page::{Page, Style};
 pub use point::{Point, named};

@@ -1,10 +1,10 @@
 //! A step that a condition needs and no order has, and what its actor does instead.
-ghost use Rattle.std.specs.Prelude.{◌≡◌, IfOk, MatchOption, None};
-ghost use Rattle.test_report.specs.Missing.{Needs};
+ghost use Rattle.std.specs.Prelude.{◌≡◌, Bool, IfOk, IfSome, MatchOption, None};
+ghost use Rattle.test_report.specs.Missing.{IsLacking, Needs};
 
 use crate::records::event_line;
 use board_core::{Event, Op};
-use conditions::{Condition, Pattern, Rule, fits_step};
+use conditions::{Condition, NeedsMet, Pattern, Rule, fits_step};
 use diagnostics::Case;
 use outcome_statistics::{Deed, Visits};
 use std::alloc::{AllocError, Global};
@@ -208,6 +208,20 @@ fn write_used<W: fmt::Write>(f: &mut fmt::Formatter<W>, used: &[Used]) -> fmt::R
     Ok(())
 }
 
+/// Whether a condition lacks a step that it needs: false for its first pattern, true for its second.
+pub fn lack_of(rule: &Rule, met: NeedsMet) -> Option<bool>
+    ensures some { IfSome result (IsLacking rule.now met) }
+    ensures none { result ≡ None → (is_second : Bool) → ¬ IsLacking rule.now met is_second }
+{
+    if met.lacks_first(rule) {
+        return Some(false);
+    }
+    if met.lacks_second(rule) {
+        return Some(true);
+    }
+    None
+}
+
 /// The pattern of a condition that needs a step, and whether its reply counts.
 fn sought(rule: &Rule, is_second: bool) -> Option<(&Pattern, bool)>
     ensures { result ≡ None → ¬ Needs rule.now is_second }
@@ -260,6 +274,7 @@ fn does(op: Op) -> &'static str {
         Op::Load(_) => "loads",
         Op::Store(..) => "stores",
         Op::Fetch(_) => "fetches",
+        Op::Amo(_, amo) => { if amo.reads() { "changes" } else { "stores" } }
         Op::WriteSatp(_) => "writes satp",
         Op::WriteSie(_) => "writes sie",
         Op::WriteSstatusSie(_) => "writes sstatus",

@@ -12,7 +12,7 @@ pub enum Stale {
     Word,
 }
 
-/// What a load or a fetch gave: a value, or the number of its fault's cause.
+/// What a load, a fetch or an AMO gave: a value, or the number of its fault's cause.
 #[derive(Clone, Copy, Debug, PartialEq, Eq, Hash)]
 pub enum Given {
     /// A value.

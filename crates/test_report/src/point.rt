@@ -8,6 +8,7 @@ use crate::notes::Note;
 use crate::verdict::{Extent, Said, Verdict};
 use conditions::{Condition, Rule};
 use diagnostics::Case;
+use outcome_statistics::asks_of_ends;
 use std::alloc::{AllocError, Global};
 
 /// A point: its subject and its verdict.
@@ -17,6 +18,8 @@ pub struct Point {
     pub name: String,
     /// It is about some order, not about each.
     is_some: bool,
+    /// It is about ends.
+    is_of_ends: bool,
     /// Its verdict.
     pub verdict: Verdict,
     /// How far `test` looked.
@@ -36,6 +39,7 @@ impl Point {
         Point {
             name,
             is_some: false,
+            is_of_ends: false,
             verdict,
             reach: Extent::Lines,
             details: Vec::new(alloc),
@@ -64,6 +68,7 @@ impl Point {
             Some(condition) => matches!(condition.rule, Rule::OfSome(_)),
             None => false,
         };
+        point.is_of_ends = asks_of_ends(condition);
         Ok(point)
     }
 
@@ -73,6 +78,7 @@ impl Point {
             verdict: &self.verdict,
             reach: self.reach,
             is_some: self.is_some,
+            is_of_ends: self.is_of_ends,
         }
     }
 

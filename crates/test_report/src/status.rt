@@ -2,7 +2,6 @@
 ghost use Rattle.std.specs.Prelude.{◌≡◌, ◌↔◌, true};
 ghost use Rattle.test_report.specs.Statuses.{EachHolds, EachPointHolds, HasFailing, IsFailing, SomeFails, SomeIsCut};
 ghost use Rattle.test_report.specs.declared.status.Status.TheVariants.{AllHold, SomeFail};
-ghost use Rattle.test_report.specs.declared.verdict.Verdict.TheVariants.{Holds};
 
 use crate::point::Point;
 use crate::report::FileReport;
@@ -90,18 +89,11 @@ fn each_point_holds(points: &[Point]) -> bool
         return false;
     }
     for point in points {
-        if !holds(&point.verdict) {
+        if !point.holds() {
             return false;
         }
     }
     true
-}
-
-/// Whether a verdict says that something holds.
-fn holds(verdict: &Verdict) -> bool
-    ensures { (result ≡ true) ↔ (verdict.now ≡ Holds) }
-{
-    matches!(verdict, Verdict::Holds)
 }
 
 /// Whether a verdict says that something is wrong.

@@ -79,14 +79,14 @@ pub enum Extent {
         orders: u64,
         /// The seed.
         seed: u64,
-        /// How many of them the limit cut off, if the point is about ends.
+        /// How many of them the limit cut off.
         cut: u64,
     },
     /// At some runs on threads.
     Runs {
         /// How many.
         runs: u64,
-        /// How many of them the limit cut off, if the point is about ends.
+        /// How many of them the limit cut off.
         cut: u64,
     },
 }
@@ -96,29 +96,27 @@ impl fmt::Display for Extent {
     fn fmt<W: fmt::Write>(&self, f: &mut fmt::Formatter<W>) -> fmt::Result {
         match self {
             Extent::Lines => Ok(()),
-            Extent::Explored => write!(f, "all orders"),
-            Extent::All(orders) => {
-                write!(f, "all orders")?;
-                match orders.many() {
-                    Some(many) => write!(f, ": {}", Grouped(many)),
-                    None => Ok(()),
-                }
+            Extent::Explored | Extent::All(AllOrders::Endless(_)) => write!(f, "all orders"),
+            Extent::All(AllOrders::Counted(orders)) => {
+                write!(f, "all orders: {}", Grouped(orders.all()))
             }
-            Extent::Tried { orders, seed, cut } => {
+            Extent::Tried { orders, seed, .. } => {
                 let many = Grouped(u128::from(*orders));
-                write!(f, "{many} orders of unknown many, seed {seed}")?;
-                write_cut(f, *cut)
+                write!(f, "{many} orders of unknown many, seed {seed}")
             }
-            Extent::Runs { runs, cut } => {
-                write!(f, "{} runs on threads", Grouped(u128::from(*runs)))?;
-                write_cut(f, *cut)
+            Extent::Runs { runs, .. } => {
+                write!(f, "{} runs on threads", Grouped(u128::from(*runs)))
             }
         }
     }
 }
 
 /// How many orders the limit cut off.
-fn write_cut<W: fmt::Write>(f: &mut fmt::Formatter<W>, cut: u64) -> fmt::Result {
+fn write_cut<W: fmt::Write>(f: &mut fmt::Formatter<W>, reach: Extent) -> fmt::Result {
+    let cut = match reach {
+        Extent::Tried { cut, .. } | Extent::Runs { cut, .. } => cut,
+        Extent::Lines | Extent::Explored | Extent::All(_) => 0,
+    };
     if cut == 0 {
         return Ok(());
     }
@@ -136,6 +134,8 @@ pub(crate) struct Said<'a> {
     pub(crate) reach: Extent,
     /// The point is about some order, not about each.
     pub(crate) is_some: bool,
+    /// The point is about ends, so that orders which the limit cut off are spared.
+    pub(crate) is_of_ends: bool,
 }
 
 impl fmt::Display for Said<'_> {
@@ -181,10 +181,15 @@ impl Said<'_> {
     ) -> fmt::Result {
         let reach = self.reach;
         match (reach, of_each) {
-            (Extent::Lines, _) => Ok(()),
-            (Extent::Explored, false) => write!(f, ": {found}"),
-            (_, true) => write!(f, ": {found} in {reach}"),
-            (_, false) => write!(f, ": {found} in some of {reach}"),
+            (Extent::Lines, _) => {}
+            (Extent::Explored, false) => write!(f, ": {found}")?,
+            (_, true) => write!(f, ": {found} in {reach}")?,
+            (_, false) => write!(f, ": {found} in some of {reach}")?,
+        }
+        if self.is_of_ends {
+            write_cut(f, reach)
+        } else {
+            Ok(())
         }
     }
 }

@@ -1,6 +1,6 @@
 -- From verdicts that hold to conditions that are met.
 use Rattle.std.proofs.Common.{◌≡◌, ◌≢◌, inl, inr, ℕ, zero, suc, ◌+◌, ◌<◌, List, [], ◌∷◌, ◌++◌, length, refl, sym, ap, ◌∙◌, subst, arith}
-use Rattle.std.specs.Prelude.{◌==◌, if◌then◌else◌, Bool, map, slice_get}
+use Rattle.std.specs.Prelude.{◌==◌, if◌then◌else◌, Bool, map, slice_get, Option, Some, None}
 use Rattle.std.specs.Global.{Vec}
 use Rattle.std.proofs.lemmas.List.{append-nil, length-append}
 use Rattle.conditions.specs.Condition.{Condition}
@@ -23,15 +23,15 @@ use Rattle.test_runner.specs.Findings.{IsExplored, IsFoundOfScript, IsFoundOf, I
 use Rattle.test_runner.specs.Meeting.{AreAllMet, AreMetBy, AreMetByAll, AreMetByTried}
 use Rattle.test_runner.proofs.Lists.{EachIsHolds, back-holds, front-holds, holds-in, none-fails}
 
-by-all : (options : Options) (bytes : List ℕ) (file : FileReport) (it : IsFoundOfScript options bytes file)
-    → IsExplored options it.script it.conditions (verdicts it.judged) → EachIsHolds (verdicts it.judged)
+by-all : (options : Options) (bytes : List ℕ) (file : FileReport) (it : IsFoundOfScript options bytes file) (seconds states : Option ℕ)
+    → IsExplored options it.script it.conditions seconds states (verdicts it.judged) → EachIsHolds (verdicts it.judged)
     → AreMetByAll bytes (verdicts it.judged)
-by-all options bytes file it explored each = record {
+by-all options bytes file it seconds states explored each = record {
   script = written it.script;
   conditions = it.conditions;
   are = record { reads = it.reads; program = explored.program; have = it.have };
   each = (λ place below.
-      holds-in (λ place verdict. IsFoundBy (widest it.script.config) (task_of (content it.script.body)) options.limit.seconds (slice_get it.conditions place) verdict)
+      holds-in (λ place verdict. IsFoundBy (widest it.script.config) (task_of (content it.script.body)) seconds states (slice_get it.conditions place) verdict)
       (verdicts it.judged) each explored.are.each place (let many = explored.are.many in omega arith));
   many = explored.are.many;
 }
@@ -127,9 +127,9 @@ one-fails found is each =
 met-as : (options : Options) (bytes : List ℕ) (file : FileReport) (it : IsFoundOfScript options bytes file) (mode : Mode)
     → IsFoundOf options it.script it.conditions mode it.judged → EachIsHolds (verdicts it.judged)
     → AreAllMet options mode bytes it.judged
-met-as options bytes file it Explore (inl explored) each = by-all options bytes file it explored each
+met-as options bytes file it Explore (inl explored) each = by-all options bytes file it options.limit.seconds (Some options.states) explored each
 met-as options bytes file it Explore (inr other) each = absurd (one-fails (verdicts it.judged) other.1 each)
-met-as options bytes file it Test (inl explored) each = inl (by-all options bytes file it explored each)
+met-as options bytes file it Test (inl explored) each = inl (by-all options bytes file it None None explored each)
 met-as options bytes file it Test (inr (inl tried)) each = inr (inl (by-tried options bytes file it tried each))
 met-as options bytes file it Test (inr (inr lines)) each = inr (inr (written it.script, it.reads, lines))
 

@@ -6,12 +6,11 @@ use Rattle.guest_script.specs.Grammar.{content}
 use Rattle.outcome_statistics.specs.Records.{Tried}
 use Rattle.script_lines.specs.declared.script.Script.{Script}
 use Rattle.test_report.specs.declared.report.FileReport.{FileReport}
-use Rattle.test_report.specs.declared.verdict.Extent.{Extent}
 use Rattle.test_report.specs.declared.verdict.Unjudged.TheVariants.{NoTime, NoOrder, NotAllOrders, TooMany}
 use Rattle.test_report.specs.declared.verdict.Verdict.{Verdict}
 use Rattle.test_report.specs.declared.verdict.Verdict.TheVariants.{Holds, Fails, Vacuous, NoEnd, Misfit, NotJudged}
-use Rattle.test_terms.specs.declared.options.Orders.{Orders}
-use Rattle.tried_orders.specs.Verdicts.{AddsPoints, AreTriedOf, IsCutByTime, IsFoundBy}
+use Rattle.test_terms.specs.declared.options.Options.{Options}
+use Rattle.tried_orders.specs.Verdicts.{AddsOrders, IsCutByTime, IsFoundBy}
 
 found-if-cut : (harts : ℕ) (is_cut : Bool) (asked : Option Condition) (tried : List Tried) (verdict : Verdict)
     → IsFoundBy harts is_cut asked tried verdict → IsFoundBy harts true asked tried verdict
@@ -25,12 +24,11 @@ found-if-cut harts is_cut asked tried (NotJudged NoOrder) is = is
 found-if-cut harts is_cut asked tried (NotJudged NotAllOrders) is = is
 found-if-cut harts is_cut asked tried (NotJudged (TooMany states)) is = is
 
-module _ (script : Script) (seed : ℕ) (asked : Orders) (Tells : List Tried → Extent → Type 0) (conditions : List Condition)
-    (before after : FileReport) where
+module _ (options : Options) (script : Script) (conditions : List Condition) (before after : FileReport) where
   -- what was found of orders, once runs were made too
   pub still-tried : (early late : Bool) → (late ≡ false → early ≡ false)
-      → AddsPoints (AreTriedOf script.config (content script.body) seed asked early) Tells script.config.harts early conditions before after
-      → AddsPoints (AreTriedOf script.config (content script.body) seed asked late) Tells script.config.harts late conditions before after
+      → AddsOrders options script.config (content script.body) conditions early before after
+      → AddsOrders options script.config (content script.body) conditions late before after
   still-tried early true stays adds = record {
     tried = adds.tried;
     are = record {
@@ -48,7 +46,7 @@ module _ (script : Script) (seed : ℕ) (asked : Orders) (Tells : List Tried →
     tells = adds.tells;
   }
   still-tried early false stays adds =
-      subst (λ (is_cut : Bool). AddsPoints (AreTriedOf script.config (content script.body) seed asked is_cut) Tells script.config.harts is_cut conditions before after)
+      subst (λ (is_cut : Bool). AddsOrders options script.config (content script.body) conditions is_cut before after)
       (stays refl) adds
 
 -- only the end of time cut it short, at the orders or at the runs

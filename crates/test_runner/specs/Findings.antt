@@ -1,5 +1,5 @@
 -- What is found of a file's bytes, in the order of its conditions (profile).
-use Rattle.std.specs.Prelude.{◌≡◌, ◌≢◌, ◌⊎◌, ℕ, List, [], ◌∷◌, ◌++◌, map, None, true}
+use Rattle.std.specs.Prelude.{◌≡◌, ◌≢◌, ◌⊎◌, ℕ, List, [], ◌∷◌, ◌++◌, map, Option, Some, None, true}
 use Rattle.conditions.specs.Condition.{Condition}
 use Rattle.conditions.specs.Grammar.{ReadsConditions, condition_value}
 use Rattle.guest_script.specs.Grammar.{Reads, content, written}
@@ -16,13 +16,14 @@ use Rattle.test_report.specs.declared.verdict.Verdict.{Verdict}
 use Rattle.test_report.specs.declared.verdict.Verdict.TheVariants.{Fails}
 use Rattle.test_terms.specs.declared.options.Options.{Options}
 use Rattle.all_orders.specs.Verdicts.{AreVerdicts, widest}
-use Rattle.tried_orders.specs.Verdicts.{AddsPoints, AreRunsOf, AreTriedOf, TellsOrders, TellsRuns}
+use Rattle.tried_orders.specs.Verdicts.{AddsOrders, AddsRuns}
 
 module _ (options : Options) (script : Script) (conditions : List Condition) where
-  -- By all orders of a program, on its board with the widest limit, one verdict is found of each condition.
-  pub record IsExplored (found : List Verdict) : Type 0 where
+  -- By all orders of a program, on its board with the widest limit, one verdict is found of each condition. (The limits of time
+  -- and of states: where both are none, each condition is judged.)
+  pub record IsExplored (seconds states : Option ℕ) (found : List Verdict) : Type 0 where
     pub program : IsProgram (content script.body)
-    pub are : AreVerdicts (widest script.config) (task_of (content script.body)) options.limit.seconds conditions found
+    pub are : AreVerdicts (widest script.config) (task_of (content script.body)) seconds states conditions found
 
   -- By the orders of a program that were tried one point is found of each condition, and, if runs on threads were asked
   -- for, one more by their records. They are cut short only if there is a time limit.
@@ -31,19 +32,17 @@ module _ (options : Options) (script : Script) (conditions : List Condition) whe
     pub begun : FileReport
     pub none : begun.points.items ≡ []
     pub first : FileReport
-    pub orders : AddsPoints (AreTriedOf script.config (content script.body) options.seed options.orders file.is_cut)
-        (TellsOrders options.seed) script.config.harts file.is_cut conditions begun first
+    pub orders : AddsOrders options script.config (content script.body) conditions file.is_cut begun first
     pub no_runs : options.runs ≡ 0 → file.points ≡ first.points
-    pub runs : options.runs ≢ 0
-        → AddsPoints (AreRunsOf script.config (content script.body) options.runs file.is_cut) TellsRuns script.config.harts
-        file.is_cut conditions first file
+    pub runs : options.runs ≢ 0 → AddsRuns options script.config (content script.body) conditions file.is_cut first file
     pub time : file.is_cut ≡ true → options.limit.seconds ≢ None
 
-  -- What is found of a script. `explore` looks at all orders of a program, and no other script has orders. `test` looks at
-  -- all orders or at some. (What it finds of schedules and traces is tested.)
+  -- What is found of a script. `explore` looks at all orders of a program, up to the limits, and no other script has orders. `test`
+  -- looks at all orders, and judges each condition by them, or at some. (What it finds of schedules and traces is tested.)
   abbrev pub IsFoundOf : Mode → FileReport → Type 0
-  IsFoundOf Explore file = IsExplored (verdicts file) ⊎ ((¬ IsProgram (content script.body)) × (verdicts file ≡ Fails ∷ []))
-  IsFoundOf Test file = IsExplored (verdicts file) ⊎ AreTried file ⊎ (¬ IsProgram (content script.body))
+  IsFoundOf Explore file = IsExplored options.limit.seconds (Some options.states) (verdicts file)
+      ⊎ ((¬ IsProgram (content script.body)) × (verdicts file ≡ Fails ∷ []))
+  IsFoundOf Test file = IsExplored None None (verdicts file) ⊎ AreTried file ⊎ (¬ IsProgram (content script.body))
 
 -- What is found of bytes: they are this script and have these conditions, so much is found of these, and then something
 -- fails for each comment that looks like a condition.

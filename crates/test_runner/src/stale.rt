@@ -19,6 +19,10 @@ impl Expected {
             Op::Load(va) => (va, Kind::Load),
             Op::Store(va, _) => (va, Kind::Store),
             Op::Fetch(va) => (va, Kind::Fetch),
+            Op::Amo(at, amo) => (
+                amo.word_at(at),
+                if amo.reads() { Kind::Amo } else { Kind::Store },
+            ),
             _ => return None,
         };
         if h >= board.config().harts {

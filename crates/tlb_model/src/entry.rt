@@ -152,6 +152,7 @@ impl Entry {
             Kind::Fetch => has(self.rights, X),
             Kind::Load => has(self.rights, R),
             Kind::Store => has(self.rights, W) && has(self.rights, D),
+            Kind::Amo => has(self.rights, R) && has(self.rights, W) && has(self.rights, D),
         }
     }
 

@@ -1,1 +1,5 @@
+pub mod Members
+pub mod Giving
+pub mod Tracking
+pub mod Staling
 pub mod Lists

@@ -1,2 +1,5 @@
+pub mod Sets
 pub mod Effects
 pub mod Watched
+pub mod Tracked
+pub mod Inside

@@ -6,10 +6,12 @@ ghost use Rattle.hart_access.specs.Translations.{IsTranslated};
 ghost use Rattle.any_tlb.specs.declared.watcher.Walking.TheVariants.{Had};
 ghost use Rattle.any_tlb.specs.Watch.{AgreesWithTables, logged, spared};
 ghost use Rattle.tlb_watch.specs.Effects.{effect_on};
-ghost use Rattle.tlb_watch.specs.Watched.{after_event, looked};
+ghost use Rattle.tlb_watch.specs.Tracked.{first_watch};
+ghost use Rattle.tlb_watch.specs.Watched.{WatchTheSame, after_event, looked};
 
 use crate::effect::CacheEffect;
 use crate::hart_address::HartAddress;
+use crate::kept::renew;
 use any_tlb::{EntryWatch, Walks};
 use std::alloc::{AllocError, Global};
 use std::marker::Model;
@@ -62,6 +64,20 @@ impl AddressWatch {
         Ok(AddressWatch { at, walks, entries })
     }
 
+    /// What is watched of the address at a board's first opening: its hart has satp 0, and nothing lives in its TLB.
+    ///
+    /// # Errors
+    ///
+    /// Out of memory.
+    pub fn first(alloc: Global, at: HartAddress) -> Result<AddressWatch, AllocError>
+        ensures { IfOk result (λ w. w ≡ first_watch at) }
+    {
+        let mut walks = Walks::new(alloc);
+        walks.has(Satp::bare())?;
+        let entries = EntryWatch::new(alloc, at.address);
+        Ok(AddressWatch { at, walks, entries })
+    }
+
     /// The address and its hart.
     pub fn at(&self) -> HartAddress
         ensures { result ≡ self.now.at }
@@ -69,7 +85,8 @@ impl AddressWatch {
         self.at
     }
 
-    /// An event with this effect happened. The RAM and the hart's satp are those after it.
+    /// An event with this effect happened. The RAM and the hart's satp are those after it. What is watched is kept as sets: each
+    /// entry and each satp once.
     ///
     /// # Errors
     ///
@@ -81,12 +98,11 @@ impl AddressWatch {
         ram: &Ram,
         satp: Satp,
     ) -> Result<(), AllocError>
-        ensures after { IfOk result (λ _. self.new
-            ≡ after_event (effect_on effect self.old.at.hart) (word_in ram.now) satp self.old) }
+        ensures after { IfOk result (λ _. WatchTheSame self.new
+            (after_event (effect_on effect self.old.at.hart) (word_in ram.now) satp self.old)) }
     {
         self.apply(effect)?;
-        self.walks.has(satp)?;
-        self.entries.watch(alloc, ram, &self.walks)
+        renew(alloc, &mut self.walks, &mut self.entries, ram, satp)
     }
 
     /// Drops what the effect ends at the hart, and notes it for walks.

@@ -1,12 +1,17 @@
 //! What is watched follows the board's history.
-ghost use Rattle.std.specs.Prelude.{◌≡◌, [], ◌∷◌, List};
+ghost use Rattle.std.specs.Prelude.{◌≡◌, ◌<◌, [], ◌∷◌, ℕ, List, map};
+ghost use Rattle.std.specs.List.{All, AllZip};
+ghost use Rattle.board_terms.specs.declared.config.Config.{Config};
 ghost use Rattle.board_core.specs.History.{Event};
 ghost use Rattle.board_core.specs.Memory.{memory, satp};
-ghost use Rattle.board_core.specs.Opening.{Opening};
+ghost use Rattle.board_core.specs.Opening.{Opening, opening_at};
 ghost use Rattle.any_tlb.specs.declared.watcher.Walking.TheVariants.{Had};
 ghost use Rattle.any_tlb.specs.Effects.{effect_at};
+ghost use Rattle.tlb_watch.specs.declared.effect.CacheEffect.{CacheEffect};
 ghost use Rattle.tlb_watch.specs.declared.hart_address.HartAddress.{HartAddress};
-ghost use Rattle.tlb_watch.specs.Watched.{after_event, looked, opened_entries, watch_of};
+ghost use Rattle.tlb_watch.specs.Effects.{effect_on};
+ghost use Rattle.tlb_watch.specs.Tracked.{Follows, IsTracking, first_watch, satp_in};
+ghost use Rattle.tlb_watch.specs.Watched.{WatchedAddress, after_event, looked, opened_entries, watch_of};
 
 /// What is watched of an address by a board's history begins with what lives in the hart's TLB at the opening, and each event
 /// changes it by its effect at the hart, and by the memory and the satp that it leaves. A law: there is nothing to run.
@@ -17,4 +22,23 @@ pub fn watches_follow_histories()
         → after_event (effect_at o past event at.hart) (memory o (event ∷ past)) (satp o (event ∷ past) at.hart)
         (watch_of o past at)
         ≡ watch_of o (event ∷ past) at }
+{}
+
+/// At a board's first opening a tracker has what is watched of its addresses. A law: there is nothing to run.
+pub fn first_watches_are_watches()
+    ensures { (c : Config) (addresses : List HartAddress)
+        → All (λ (at : HartAddress). at.hart < c.harts) addresses
+        → IsTracking (opening_at c) [] addresses (map first_watch addresses) }
+{}
+
+/// A tracker that follows an event has what is watched of its addresses after it: given the event's effect, and the memory and the
+/// satps that it leaves. A law: there is nothing to run.
+pub fn trackers_follow_histories()
+    ensures { (o : Opening) (event : Event) (past : List Event) (addresses : List HartAddress) (effect : CacheEffect)
+        (satps : List ℕ) (before after : List WatchedAddress)
+        → ((h : ℕ) → effect_on effect h ≡ effect_at o past event h)
+        → ((h : ℕ) → h < o.config.harts → satp_in satps h ≡ satp o (event ∷ past) h)
+        → IsTracking o past addresses before
+        → AllZip (Follows effect (memory o (event ∷ past)) satps) before after
+        → IsTracking o (event ∷ past) addresses after }
 {}

@@ -1,12 +1,19 @@
-//! What a hart's TLB may hold for one address, step by step, whatever it keeps.
+//! What harts' TLBs may hold for addresses, step by step, whatever they keep.
 #![tactic(auto)]
 
 mod address;
 mod effect;
 mod hart_address;
+mod kept;
 mod laws;
+mod ready;
+mod stale;
+mod tracker;
 
 pub use address::AddressWatch;
 pub use effect::CacheEffect;
 pub use hart_address::HartAddress;
-pub use laws::watches_follow_histories;
+pub use laws::{first_watches_are_watches, trackers_follow_histories, watches_follow_histories};
+pub use ready::Ready;
+pub use stale::is_stale;
+pub use tracker::Tracker;

@@ -19,7 +19,7 @@ use Rattle.outcome_statistics.specs.declared.ends.Ends.{Ends}
 use Rattle.outcome_statistics.specs.declared.judgement.Judgement.{Judgement}
 use Rattle.outcome_statistics.specs.declared.judgement.Judgement.TheVariants as says
 use Rattle.outcome_statistics.specs.Findings.{AreEnded, AreOrders, HaveEnded}
-use Rattle.outcome_statistics.specs.Judgements.{IsJudged, asked_rule}
+use Rattle.outcome_statistics.specs.Judgements.{IsJudged, IsMaybe, asked_rule}
 use Rattle.outcome_statistics.specs.Met.{AreNeedsMet}
 use Rattle.outcome_statistics.specs.Records.{EachIs, Tried}
 use Rattle.test_report.specs.Misfits.{IsMisfitFor}
@@ -31,6 +31,7 @@ use Rattle.test_report.specs.declared.verdict.Unjudged.{Unjudged}
 use Rattle.test_report.specs.declared.verdict.Unjudged.TheVariants.{NoTime, NoOrder, NotAllOrders, TooMany}
 use Rattle.test_report.specs.declared.verdict.Verdict.{Verdict}
 use Rattle.test_report.specs.declared.verdict.Verdict.TheVariants.{Holds, Fails, Vacuous, NoEnd, Misfit, NotJudged}
+use Rattle.test_terms.specs.declared.options.Options.{Options}
 use Rattle.test_terms.specs.declared.options.Orders.{Orders}
 use Rattle.test_terms.specs.declared.options.Orders.TheVariants.{First, One}
 
@@ -85,9 +86,14 @@ pub record Say (asked : Option Condition) (tried : List Tried) (judgement : Judg
   pub ended : AreEnded tried ends
   pub judged : IsJudged asked tried met ends judgement
 
+-- the judgement that no record has the step that a condition's first pattern needs, or its second one
+abbrev pub lacking : (is_second : Bool) → Judgement
+lacking false = says.LacksFirst
+lacking true = says.LacksSecond
+
 -- No record has the step that one of the condition's patterns needs.
 abbrev pub SayVacuous : Option Condition → List Tried → Type 0
-SayVacuous asked tried = Say asked tried says.LacksFirst ⊎ Say asked tried says.LacksSecond
+SayVacuous asked tried = (is_second : Bool) × Say asked tried (lacking is_second)
 
 -- a condition is about all orders together: how they can still end
 abbrev pub IsOfAll : Option Condition → Type 0
@@ -106,11 +112,23 @@ IsUnjudgedBy is_cut asked tried (TooMany states) = ⊥
 abbrev pub HasNoMisfit : (harts : ℕ) → Option Condition → Type 0
 HasNoMisfit harts asked = (word : Word) → ¬ IsMisfitFor harts (asked_rule asked) word
 
+-- There are records, they don't meet the condition, and it isn't vacuous, unless it begins with `maybe`.
+pub record SayFailing (asked : Option Condition) (tried : List Tried) : Type 0 where
+  pub some : tried ≢ []
+  pub fails : Say asked tried says.Fails
+  pub needed : IsMaybe asked ⊎ ¬ SayVacuous asked tried
+
+-- There are records, none has the step that the condition's first or second pattern needs, and it doesn't begin with `maybe`.
+pub record SayLacking (asked : Option Condition) (tried : List Tried) (is_second : Bool) : Type 0 where
+  pub some : tried ≢ []
+  pub lacks : Say asked tried (lacking is_second)
+  pub meant : ¬ IsMaybe asked
+
 -- The verdict on a condition, or on a program without any, is what these records say, or a misfit if it has one.
 abbrev pub IsFoundBy : (harts : ℕ) → (is_cut : Bool) → Option Condition → List Tried → Verdict → Type 0
 IsFoundBy harts is_cut asked tried Holds = HasNoMisfit harts asked × Say asked tried says.Holds
-IsFoundBy harts is_cut asked tried Fails = HasNoMisfit harts asked × (Say asked tried says.Fails ⊎ SayVacuous asked tried)
-IsFoundBy harts is_cut asked tried (Vacuous missing) = HasNoMisfit harts asked × SayVacuous asked tried
+IsFoundBy harts is_cut asked tried Fails = HasNoMisfit harts asked × SayFailing asked tried
+IsFoundBy harts is_cut asked tried (Vacuous missing) = HasNoMisfit harts asked × SayLacking asked tried missing.is_second
 IsFoundBy harts is_cut asked tried NoEnd = HasNoMisfit harts asked × Say asked tried says.NoEnd
 IsFoundBy harts is_cut asked tried (Misfit word) = IsMisfitFor harts (asked_rule asked) word
 IsFoundBy harts is_cut asked tried (NotJudged why) = HasNoMisfit harts asked × IsUnjudgedBy is_cut asked tried why
@@ -127,15 +145,15 @@ EachIsFoundBy harts is_cut conditions tried found =
 abbrev pub counted : List Tried → ℕ
 counted tried = min (length tried) (2 ^ 64 - 1)
 
--- This is 0, or the number of those that the limit cut off.
+-- So many of them the limit cut off (counted up to 2^64-1).
 abbrev pub AreCutOff : List Tried → ℕ → Type 0
-AreCutOff tried cut = (cut ≡ 0) ⊎ HaveEnded endings.HistoryFull tried cut
+AreCutOff tried cut = HaveEnded endings.HistoryFull tried cut
 
--- The extent has the number of these orders, and their seed.
+-- The extent has the number of these orders, their seed, and how many of them the limit cut off.
 abbrev pub TellsOrders : (seed : ℕ) → List Tried → Extent → Type 0
 TellsOrders seed tried reach = (cut : ℕ) × (reach ≡ spans.Tried (counted tried) seed cut) × AreCutOff tried cut
 
--- The extent has the number of these runs on threads.
+-- The extent has the number of these runs on threads, and how many of them the limit cut off.
 abbrev pub TellsRuns : List Tried → Extent → Type 0
 TellsRuns tried reach = (cut : ℕ) × (reach ≡ spans.Runs (counted tried) cut) × AreCutOff tried cut
 
@@ -152,3 +170,14 @@ pub record AddsPoints (Tries : List Tried → Type 0) (Tells : List Tried → Ex
   pub told : List Extent
   pub reached : extents after ≡ extents before ++ told
   pub tells : EachIs (Tells tried) told
+
+module _ (options : Options) (c : Config) (content : Content) (conditions : List Condition) (is_cut : Bool) (before after : FileReport) where
+  -- By the orders that the options ask for (AreTriedOf), one point more is found of each condition of a program, or of the program
+  -- without any (AddsPoints); its extent has their number and seed, and how many the limit cut off (TellsOrders).
+  abbrev pub AddsOrders : Type 0
+  AddsOrders = AddsPoints (AreTriedOf c content options.seed options.orders is_cut) (TellsOrders options.seed) c.harts is_cut conditions
+      before after
+
+  -- The same by as many runs on threads as the options ask for (AreRunsOf, TellsRuns).
+  abbrev pub AddsRuns : Type 0
+  AddsRuns = AddsPoints (AreRunsOf c content options.runs is_cut) TellsRuns c.harts is_cut conditions before after

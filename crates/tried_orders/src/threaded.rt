@@ -6,7 +6,7 @@ ghost use Rattle.guest_programs.specs.Programs.{IsProgram};
 ghost use Rattle.outcome_statistics.specs.Findings.{AreFound};
 ghost use Rattle.outcome_statistics.specs.Records.{Tried as Record};
 ghost use Rattle.tried_orders.specs.declared.points.Source.TheVariants.{Threads as FromThreads};
-ghost use Rattle.tried_orders.specs.Verdicts.{AddsPoints, AreRunsOf, IsCutByTime, TellsRuns};
+ghost use Rattle.tried_orders.specs.Verdicts.{AddsRuns, AreRunsOf, IsCutByTime};
 
 use crate::pace::Pace;
 use crate::points::{Source, Tried, judged, keep_first, put_points, tells_first};
@@ -31,9 +31,8 @@ pub fn test_runs<R: AllocGlobal + Clock + Eprint + Files + Sync + Threads + Wait
 ) -> Result<(), Stop>
     requires { IsProgram (content trial.now.script.now.body) }
     ensures none { trial.now.options.now.runs ≡ 0 → file.new.points ≡ file.old.points }
-    ensures points { OnOk result (trial.now.options.now.runs ≢ 0
-        → AddsPoints (AreRunsOf trial.now.script.now.config (content trial.now.script.now.body) trial.now.options.now.runs
-        file.new.is_cut) TellsRuns trial.now.script.now.config.harts file.new.is_cut trial.now.case.conditions.now file.old
+    ensures points { OnOk result (trial.now.options.now.runs ≢ 0 → AddsRuns trial.now.options.now
+        trial.now.script.now.config (content trial.now.script.now.body) trial.now.case.conditions.now file.new.is_cut file.old
         file.new) }
     ensures cut { file.new.is_cut ≡ false → file.old.is_cut ≡ false }
     ensures time { IsCutByTime trial.now.options.now.limit.seconds file.old.is_cut file.new.is_cut }

@@ -3,14 +3,14 @@ if exists('b:current_syntax')
   finish
 endif
 
-let s:operations = 'ecall load fetch store satp sfence fencei sie sstatus sip clearssip wfi poll serve advance tick'
+let s:operations = 'ecall load fetch store store1 store2 store4 amoswap amoadd amoand amoor amoxor amomin amomax amominu amomaxu amoswap.w amoadd.w amoand.w amoor.w amoxor.w amomin.w amomax.w amominu.w amomaxu.w amocas satp sfence fencei sie sstatus sip clearssip wfi poll serve advance tick'
 let s:replies = 'ret entry waiting gone value fault served moved done refused'
 let s:rules = 'never some each before can end'
 let s:ends = 'off history-full quiet stuck'
 
 " Any of these words, whole. A comment may begin behind one, and in a condition a comma.
 function! s:Words(words, behind) abort
-  return '"\%(^\|[[:blank:],!]\)\@1<=\%(' . join(split(a:words), '\|') . '\)\ze\%([[:blank:]#' . a:behind . ']\|$\)"'
+  return '"\%(^\|[[:blank:],!]\)\@1<=\%(' . join(split(escape(a:words, '.')), '\|') . '\)\ze\%([[:blank:]#' . a:behind . ']\|$\)"'
 endfunction
 
 let s:number = '-\?\%(0x\x\+\|\d\+\)'

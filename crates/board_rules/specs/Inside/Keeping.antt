@@ -2,6 +2,7 @@
 -- number, if it isn't a call's, and the opaque value of an entry. Private: an event's clauses name only the record of
 -- four.
 use Rattle.std.specs.Prelude.{◌≡◌, ℕ, Option, None, if◌then◌else◌, nat_lt}
+use Rattle.amo.specs.Names.{amo_first, made_of, amo_name, amo_second}
 use Rattle.tlb_model.specs.Entries.{Entry}
 use Rattle.board_terms.specs.declared.op.Actor.{Actor}
 use Rattle.board_terms.specs.declared.op.Actor.TheVariants.{Hart, Clock}
@@ -60,6 +61,8 @@ what_of head (ops.Ecall regs) used first opaque = kept.Ecall head first regs
 what_of head (ops.Load va) used first opaque = kept.Load head va first used
 what_of head (ops.Store va value) used first opaque = kept.Store head va value used
 what_of head (ops.Fetch va) used first opaque = kept.Fetch head va first used
+what_of head (ops.Amo at amo) used first opaque =
+    kept.Amo head (amo_name amo) at (amo_first amo) (amo_second amo) first used
 what_of head (ops.WriteSatp value) used first opaque = kept.WriteSatp head value
 what_of head (ops.WriteSie value) used first opaque = kept.WriteSie head value
 what_of head (ops.WriteSstatusSie value) used first opaque = kept.WriteSstatusSie head value
@@ -78,6 +81,7 @@ head_in (kept.Ecall head first regs) = head
 head_in (kept.Load head va first used) = head
 head_in (kept.Store head va value used) = head
 head_in (kept.Fetch head va first used) = head
+head_in (kept.Amo head name at one two first used) = head
 head_in (kept.WriteSatp head value) = head
 head_in (kept.WriteSie head value) = head
 head_in (kept.WriteSstatusSie head value) = head
@@ -96,6 +100,7 @@ op_in (kept.Ecall head first regs) = ops.Ecall regs
 op_in (kept.Load head va first used) = ops.Load va
 op_in (kept.Store head va value used) = ops.Store va value
 op_in (kept.Fetch head va first used) = ops.Fetch va
+op_in (kept.Amo head name at one two first used) = ops.Amo at (made_of name one two)
 op_in (kept.WriteSatp head value) = ops.WriteSatp value
 op_in (kept.WriteSie head value) = ops.WriteSie value
 op_in (kept.WriteSstatusSie head value) = ops.WriteSstatusSie value
@@ -114,6 +119,7 @@ used_in (kept.Ecall head first regs) = None
 used_in (kept.Load head va first used) = used
 used_in (kept.Store head va value used) = used
 used_in (kept.Fetch head va first used) = used
+used_in (kept.Amo head name at one two first used) = used
 used_in (kept.WriteSatp head value) = None
 used_in (kept.WriteSie head value) = None
 used_in (kept.WriteSstatusSie head value) = None
@@ -132,6 +138,7 @@ abbrev pub first_in : What → ℕ
 first_in (kept.Ecall head first regs) = first
 first_in (kept.Load head va first used) = first
 first_in (kept.Fetch head va first used) = first
+first_in (kept.Amo head name at one two first used) = first
 first_in (kept.ReadSip head first) = first
 first_in (kept.Advance head first opaque) = first
 first_in what = 0

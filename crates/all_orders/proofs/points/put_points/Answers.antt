@@ -25,13 +25,13 @@ loop-place-preserved g c =
     ∙ ap (λ (told : Told). Some told) (sym c.index-answers-place.is) in (
       (let long = before.0 in let is = many in omega arith),
       (c.put_point.ensures.cut ∙ before.1),
-      (λ p seconds told seen place verdict at.
+      (λ p seconds states told seen place verdict at.
           elim (slice_get-either old found.0 place verdict (subst (λ (vs : List Verdict). slice_get vs place ≡ Some verdict) grown at)) [
-            | inl earlier ↦ before.2 p seconds told seen place verdict earlier
+            | inl earlier ↦ before.2 p seconds states told seen place verdict earlier
             | inr last ↦
                 let here : place ≡ c.loop-place.place = last.0 ∙ before.0 in
-                let is : IsFound numbers p seconds (slice_get conditions c.loop-place.place) found.0 = found.2 p seconds (told c.loop-place.place c.index-answers-place.result told-at) seen in
-                subst (λ n. IsFound numbers p seconds (slice_get conditions n) verdict) (sym here)
-                (subst (λ v. IsFound numbers p seconds (slice_get conditions c.loop-place.place) v) last.1 is)
+                let is : IsFound numbers p seconds states (slice_get conditions c.loop-place.place) found.0 = found.2 p seconds states (told c.loop-place.place c.index-answers-place.result told-at) seen in
+                subst (λ n. IsFound numbers p seconds states (slice_get conditions n) verdict) (sym here)
+                (subst (λ v. IsFound numbers p seconds states (slice_get conditions c.loop-place.place) v) last.1 is)
           ]),
     )

@@ -7,6 +7,6 @@ use Rattle.all_orders.proofs.points.put_points.Given as goal
 
 abbrev pub invariant-loop-place : goal.invariant-loop-place
 invariant-loop-place g l = (length (verdicts l.file) ≡ l.place) × (l.file.is_cut ≡ l.fn.file.is_cut)
-    × ((p : Task) (seconds : Option ℕ) → AreTold l.search.scope.now.widest p seconds l.search.trial.now.case.conditions.now l.answers
-    → IsSeen l.search.scope.now.widest p seconds l.search.trial.now.case.conditions.now l.found
-    → EachIsVerdict l.search.scope.now.widest p seconds l.search.trial.now.case.conditions.now (verdicts l.file))
+    × ((p : Task) (seconds states : Option ℕ) → AreTold l.search.scope.now.widest p seconds states l.search.trial.now.case.conditions.now l.answers
+    → IsSeen l.search.scope.now.widest p seconds states l.search.trial.now.case.conditions.now l.found
+    → EachIsVerdict l.search.scope.now.widest p seconds states l.search.trial.now.case.conditions.now (verdicts l.file))

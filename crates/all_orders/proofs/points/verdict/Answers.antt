@@ -1,4 +1,4 @@
 use Rattle.all_orders.proofs.points.verdict.Goals as goal
 
 pub returns-in-None : goal.returns-in-None
-returns-in-None g c p seconds told seen = c.judged.ensures p seconds told seen
+returns-in-None g c p seconds states told seen = c.judged.ensures p seconds states told seen

@@ -1,4 +1,3 @@
-use Rattle.tried_orders.specs.Verdicts.{TellsOrders}
 use Rattle.test_runner.proofs.Trying.{by-time, still-tried}
 use Rattle.test_runner.proofs.testing.test_some.Goals as goal
 
@@ -14,8 +13,8 @@ returns g c =
       begun = c.new-file.result;
       none = c.new-file.ensures.empty;
       first = first;
-      orders = still-tried script options.seed options.orders (TellsOrders options.seed) conditions
-          c.new-file.result first first.is_cut file.is_cut c.test_runs.ensures.cut c.in_ok-test_orders.ensures.points;
+      orders = still-tried options script conditions c.new-file.result first first.is_cut file.is_cut c.test_runs.ensures.cut
+          c.in_ok-test_orders.ensures.points;
       no_runs = c.test_runs.ensures.none;
       runs = c.in_ok-test_runs.ensures.points;
       time = by-time options.limit.seconds c.new-file.result.is_cut first.is_cut file.is_cut c.new-file.ensures.whole c.test_orders.ensures.time

@@ -10,12 +10,17 @@ use Rattle.board_rules.specs.Replies.{reply}
 use Rattle.board_machine.specs.Stands.{StandsFor}
 use Rattle.board_rules.proofs.Room.{replies_are_short}
 use Rattle.board_machine.proofs.Situations.{fills-room}
-use Rattle.board_rules.proofs.Steps.{access_is, access_replied, recorded_as}
+use Rattle.board_rules.proofs.Steps.{access_again, access_is, access_replied, recorded_as}
 use Rattle.board_machine.proofs.machine.Machine.hart_event.Goals as goal
 
 -- an access
-pub access-reply-requires : goal.access-reply-requires
-access-reply-requires c = fills-room c.args.config.now c.args.self.now c.requires.good c.requires.standing.standing c.args.h c.requires.in_range
+pub access-reply-requires-clause-fills : goal.access-reply-requires-clause-fills
+access-reply-requires-clause-fills c = fills-room c.args.config.now c.args.self.now c.requires.good c.requires.standing.standing c.args.h c.requires.in_range
+
+pub access-reply-requires-clause-reach : goal.access-reply-requires-clause-reach
+access-reply-requires-clause-reach c =
+    access_again c.args.op c.in-Some.va c.in-Some.what
+    (sym c.access_of.ensures ∙ ap (option_map (λ at. (let reach : Reach = record { va = at.0; access = at.1 } in reach))) c.in-Some.is)
 
 pub new-requires : goal.new-requires
 new-requires c =
@@ -25,7 +30,7 @@ new-requires c =
     let what = c.in-Some.what in
     let same : access_of c.args.op ≡ Some (record { va = va; access = what }) =
     sym c.access_of.ensures ∙ ap (option_map (λ at. (let reach : Reach = record { va = at.0; access = at.1 } in reach))) c.in-Some.is in
-    let replied = c.access-reply.ensures.answered o standing.past c.requires.in_range standing.stands ∙ access_replied o standing.past c.args.h va what
+    let replied = c.access-reply.ensures.answered o standing.past c.requires.in_range standing.stands ∙ access_replied o standing.past c.args.h va what (access_again c.args.op va what same)
     ∙ ap (reply o standing.past c.args.h) (sym (access_is c.args.op va what same)) in
     subst (IsShort (Hart c.args.h) c.args.op) (sym replied) (replies_are_short o standing.past c.args.h c.args.op (omega (arith, c.requires.in_range, c.requires.good.at_most_128_harts)))
 

@@ -1,4 +1,4 @@
-use Rattle.std.proofs.Common.{◌≡◌, [], false, ap, sym, ◌∙◌}
+use Rattle.std.proofs.Common.{◌≡◌, false, ap, sym, ◌∙◌}
 use Rattle.std.specs.Prelude.{◌==◌}
 use Rattle.std.proofs.lemmas.Bool.{ne_eqb}
 use Rattle.tlb_watch.specs.Watched.{WatchedAddress}

@@ -1,0 +1,4 @@
+pub mod Functions
+pub mod Parts
+pub mod Amos
+pub mod Names
