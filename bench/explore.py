@@ -27,9 +27,9 @@ import time
 
 from replay import ROOT, plain_rust
 
-sys.path.append(os.path.join(ROOT, "tests"))
+sys.path.append(ROOT)
 
-import programs  # noqa: E402
+from tests import programs  # noqa: E402
 
 BUILT = os.path.join(ROOT, "crates/sbiboard_test/out/sbiboard_test")
 

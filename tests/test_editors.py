@@ -35,17 +35,17 @@ UNNAMED = (("sbiboard: line 3: fault 4", 3, "fault 4"), ("differs at line 9: ref
 
 
 def words_of_formats():
-    """The operations, replies, kinds of conditions and ends of a program that the page of formats names."""
+    """The operations, replies, kinds of conditions, ends of a program and marks that the page of formats names."""
     page = read(os.path.join(ROOT, "docs/FORMATS.md"))
     blocks = page.split("```")
     block = lambda begin: next(it for it in blocks if it.lstrip("\n").startswith(begin))
     heads = lambda text: {word for line in re.findall(r"^(\S.*?)(?:  |$)", text, re.M) for word in re.findall(r"(?:^|, )([a-z][a-z0-9.]*)", line)}
     rules = block("condition = #! ")
-    ends = re.search(r"^END +=(.*)$", rules, re.M)[1].replace("|", " ").split()
-    return heads(block("ecall EID")), heads(block("ret ERROR")), set(re.findall(r"^(?:rule +=| +\|) ([a-z]+)", rules, re.M)), set(ends)
+    ends, marks = (re.search(rf"^{name} +=(.*?)(?:   |$)", rules, re.M)[1].replace("|", " ").split() for name in ("END", "MARK"))
+    return heads(block("ecall EID")), heads(block("ret ERROR")), set(re.findall(r"^(?:rule +=| +\|) ([a-z]+)", rules, re.M)), set(ends), set(marks)
 
 
-OPERATIONS, REPLIES, RULES, ENDS = words_of_formats()
+OPERATIONS, REPLIES, RULES, ENDS, MARKS = words_of_formats()
 
 
 def kind_of(word, is_answer):
@@ -64,7 +64,7 @@ def kinds_of(line):
     kinds = {comment: "comment"} if comment >= 0 else {}
     if condition:
         kinds[begin - 2] = "sign"
-        known = {**dict.fromkeys(RULES, "rule"), **dict.fromkeys(ENDS, "end"), "after": "after", "maybe": "after", "_": "any", ",": "comma", "c": "actor", **dict.fromkeys(REPLIES, "reply")}
+        known = {**dict.fromkeys(RULES, "rule"), **dict.fromkeys(ENDS, "end"), **dict.fromkeys(MARKS, "mark"), "after": "after", "maybe": "after", "_": "any", ",": "comma", "c": "actor", **dict.fromkeys(REPLIES, "reply")}
         for found in re.finditer(r",|[^\s,]+", code[begin:]):
             kinds[begin + found.start()] = known.get(found[0]) or kind_of(found[0], False)
         return kinds
@@ -82,7 +82,7 @@ def lines():
     scripts = [path for ending in ("sched", "trace", "program") for path in sorted(glob.glob(os.path.join(EXAMPLES, "**/*." + ending), recursive=True))]
     found = [line for path in scripts for line in read(path).splitlines()]
     must("the examples", len(scripts) > 15 and len(found) > 300)
-    asked = [f"#! {it}" for it in sorted(RULES)] + [f"#! end {it}" for it in sorted(ENDS)]
+    asked = [f"#! {it}" for it in sorted(RULES)] + [f"#! end {it}" for it in sorted(ENDS)] + [f"#! never {it}" for it in sorted(MARKS)]
     return [*found, *ODD, *(f"0 {it}" for it in sorted(OPERATIONS)), *sorted(OPERATIONS), *(f"0 poll -> {it} 1" for it in sorted(REPLIES)), *asked]
 
 
@@ -213,12 +213,13 @@ class Editors(Test):
         return read(os.path.join(self.room, "told")).splitlines()
 
     def test_the_words_of_formats(self):
-        """The page of formats names operations, replies, conditions and ends: these are listed by both grammars, and no others."""
-        must(f"{OPERATIONS, REPLIES, RULES, ENDS}", {"ecall", "tick", "fetch", "load"} <= OPERATIONS and {"ret", "refused"} <= REPLIES and {"never", "end"} <= RULES and {"stuck", "off"} <= ENDS)
+        """The page of formats names operations, replies, conditions, ends and marks: these are listed by both grammars, and no others."""
+        must(f"{OPERATIONS, REPLIES, RULES, ENDS, MARKS}", {"ecall", "tick", "fetch", "load"} <= OPERATIONS and {"ret", "refused"} <= REPLIES and {"never", "end"} <= RULES and {"stuck", "off"} <= ENDS and "stale" in MARKS)
         grammar, syntax = json.loads(read(GRAMMAR)), read(os.path.join(VIM, "syntax/sbiboard.vim"))
         places = (
             ("operations", OPERATIONS, "support.function.operation", ("operation", "condition")), ("replies", REPLIES, "support.type.reply", ("reply", "condition")),
             ("rules", RULES, "keyword.control.rule", ("condition",)), ("ends", ENDS, "constant.language.end", ("condition",)),
+            ("marks", MARKS, "constant.language.mark", ("condition",)),
         )  # fmt: skip
         for name, wanted, scope, rules in places:
             in_vim = set(re.search(rf"^let s:{name} = '(.*)'$", syntax, re.M)[1].split())

@@ -118,7 +118,7 @@ class EmptyVerdicts(Test):
                     must(f"{way}: {asked}: {lines}", "vacuous" not in found[0])
                     continue
                 wanted = f"not ok line 1: {asked}: {NEEDED.format(missing)}{way[2]}{instead}"
-                must(f"{way}: {asked}: {found}, and not {wanted!r}", status == 1 and found == [wanted] and not any("never met" in it for it in lines))
+                must(f"{way}: {asked}: {found}, and not {wanted!r}", status == 1 and found == [wanted] and "# 1 points, 1 failed" in lines and not any("never met" in it for it in lines))
                 status, found, lines = in_way(self.room, way, f"#! maybe {asked}\n{LOADS}")
                 is_some = asked.startswith("some")
                 must(f"{way}: maybe {asked}: {found}", status == (1 if is_some else 0) and "vacuous" not in found[0] and "# line 1: never met: no step has this actor and operation" in lines)
@@ -288,7 +288,7 @@ class EmptyVerdicts(Test):
 
     def test_conditions_behind_blanks_are_red(self):
         """A comment that would be a condition but for blanks behind its sign is a point that fails; another comment isn't."""
-        for sign in ("# !never 1 load", "#  ! some 1 load", "#\t!each 1 load -> value 1", "  # !end quiet", "# !before 0, 1", "# !can end", "# !maybe never 1 load"):
+        for sign in ("# !never 1 load", "#  ! some 1 load", "#\t!each 1 load -> value 1", "  # !end quiet", "# !before 0, 1", "# !can end", "# !steady", "# !maybe never 1 load"):
             for way in WAYS:
                 status, found, _ = in_way(self.room, way, f"{sign}\n#! some 0 advance\n{RACE}")
                 word = sign.replace("!", " ").split()[1]

@@ -88,6 +88,7 @@ FAULTS = [
     ('"struct Counter"', '"Counter"', "low/counts_none: src/lib.rt has 0 items Counter"),
     ('"src/lib.rt"', '"src/gone.rt"', "No such file or directory"),
     ('"one more"', '"one less"', "low/counts_two: there is no test 'one less'"),
+    ('"one more"', '"another"', "low/counts_two: its judge 'another' runs no program that stands on low"),
     ('"counts_none"', '"counts_two"', "low/mutants.toml: a mutant has the name 'counts_two', which is none, or is another's"),
     ('name = "counts_none"\n', "", "low/mutants.toml: a mutant has the name '', which is none, or is another's"),
     ("new = 'false'", "now = 'false'", "low/mutants.toml: counts_none: a change has texts: file, function or item, old, new"),
@@ -106,7 +107,7 @@ TOOL = "#!/bin/sh\necho right\n"
 JUDGES = """\
 #!/bin/sh
 case "$*" in
-    --list) printf 'it is right\\nit is there\\nit is wrong\\n' ;;
+    "--list -v") printf 'it is right\\nit is there\\nit is wrong\\n' ;;
     *right) [ "$(tools/told)" = right ] ;;
     *there) [ -x tools/told ] ;;
     *) exit 1 ;;
@@ -138,7 +139,7 @@ def small_repository(room):
     for name in ("mutants", "copies.py", "edits.py", "entry.py"):
         os.makedirs(os.path.join(room, "tools"), exist_ok=True)
         shutil.copy(os.path.join(ROOT, "tools", name), os.path.join(room, "tools"))
-    for name, text in (("crates.txt", "low:\n"), ("crates/low/src/lib.rt", SOURCE), ("tests/run", "#!/bin/sh\necho one more\n")):
+    for name, text in (("crates.txt", "low:\n"), ("crates/low/src/lib.rt", SOURCE), ("tests/run", "#!/bin/sh\nprintf 'one more\\tlow\\nanother\\thigh\\n'\n")):
         os.makedirs(os.path.dirname(os.path.join(room, name)), exist_ok=True)
         write(os.path.join(room, name), text)
     os.chmod(os.path.join(room, "tests/run"), 0o755)

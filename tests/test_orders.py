@@ -244,6 +244,7 @@ class Orders(Test):
             said = said_of(holds, asked.startswith("some"), "200 orders of unknown many, seed 0")
             point = f"{'' if holds else 'not '}ok 1 - race.program: line 1: {asked}{said}"
             must(f"{asked}: {status}, {lines[:3]}", status == (0 if holds else 1) and lines[0] == "TAP version 13" and lines[1] == point)
+            must(f"{asked}: {lines}", f"# 1 points, {0 if holds else 1} failed" in lines)
         # (a dash stands for itself alone)
         for asked, holds in (("- 5", False), ("0x1000 -", False), ("- -", True), ("0x1000 5", True), ("_ 5", False), ("- _", False)):
             text = "board 1 1 10 0 0x80000000 0\n0 advance\n0 sfence - 5\n0 sfence 0x1000 -\n"

@@ -2,8 +2,12 @@
 import contextlib
 import os
 import shutil
+import threading
 
 from edits import FOLDER, ROOT, TABLE
+
+# Held while a file is written. A command that is started meanwhile has the file open, too, and what is open for writing can't be run.
+WRITING = threading.Lock()
 
 
 def below(crate, deps):
@@ -49,13 +53,13 @@ def planted(texts, folder):
         file = os.path.join(folder, path)
         with open(file, encoding="utf-8") as it:
             kept[file] = it.read()
-        with open(file, "w", encoding="utf-8") as it:
+        with WRITING, open(file, "w", encoding="utf-8") as it:
             it.write(text)
     try:
         yield
     finally:
         for file, text in kept.items():
-            with open(file, "w", encoding="utf-8") as it:
+            with WRITING, open(file, "w", encoding="utf-8") as it:
                 it.write(text)
 
 

@@ -3,17 +3,18 @@ use Rattle.std.proofs.Common.{◌≡◌, ℕ, zero, suc, ◌+◌, ◌<◌, ◌�
 use Rattle.std.specs.Prelude.{MatchOption, ◌⊎◌, slice_get}
 use Rattle.std.specs.Str.{bytes_eq}
 use Rattle.std.proofs.lemmas.Slice.Eq.{bytes_eq-Decides}
-use Rattle.std.proofs.lemmas.Bool.{ltb-true, lt-ltb}
+use Rattle.std.proofs.lemmas.Bool.{eqb-true, ltb-true, lt-ltb}
 use Rattle.std.proofs.lemmas.List.{length-map, take_all}
 use Rattle.std.proofs.lemmas.Option.{get_or_from_slice_get, slice_get-get_or}
 use Rattle.std.specs.List.{AllZip}
 use Rattle.condition_script.specs.declared.items.Item.{Item}
 use Rattle.condition_script.specs.declared.words.Word.{Word}
-use Rattle.condition_script.specs.Grammar.{ArePatterns, RuleValue, IsRuleOf, IsAsked, IsPattern, Wanted, rule_value, keyword_named, keyword_word, with_commas, AreNumberWords, AsksActor, AsksName, AsksNumber, IsNameAndNumbers, IsNameOf, IsOperation, IsStepPattern, behind, has_mark, is_mark, up_to}
+use Rattle.condition_script.specs.declared.marks.Mark.{Mark}
+use Rattle.condition_script.specs.Grammar.{ArePatterns, mark_name, mark_named, RuleValue, IsRuleOf, IsAsked, IsPattern, Wanted, rule_value, keyword_named, keyword_word, with_commas, AreNumberWords, AsksActor, AsksName, AsksNumber, IsNameAndNumbers, IsNameOf, IsOperation, IsStepOrAny, IsStepPattern, behind, has_mark, is_mark, up_to, IsSaidName, IsMarkName}
 use Rattle.condition_script.specs.declared.faults.Wrong.{Wrong}
 use Rattle.condition_script.specs.Inside.Reading.{Gives, Puts, texts}
-use Rattle.condition_script.proofs.OneReading.{name_one}
-use Rattle.condition_script.proofs.Named.{keyword_own, none_named, one_named}
+use Rattle.condition_script.proofs.OneReading.{name_one, no_after}
+use Rattle.condition_script.proofs.Named.{keyword_own, mark_own, none_named, one_named}
 use Rattle.condition_script.specs.declared.keywords.Keyword.{Keyword}
 use Rattle.condition_script.specs.declared.keywords.Keyword.TheVariants as keywords
 use Rattle.condition_script.specs.declared.rules.Rule.{Rule}
@@ -128,6 +129,13 @@ pub none_asked : (is_reply : Bool) (word : List ℕ) → bytes_eq word (codes "_
 none_asked is_reply word no_any no_name item most (inl any) = let same = (bytes_eq-Decides word (codes "_")).1 any.0 in let e = sym same ∙ no_any in absurd cc
 none_asked is_reply word no_any no_name item most (inr named) = no_name named.0 most named.1
 
+-- a word that names no reply and no mark
+pub none_said : (word : List ℕ) (found : Option (Item × ℕ)) → found ≡ None → MatchOption found ((item : Item) (most : ℕ) → IsSaidName word item most → ⊥) (λ f. IsSaidName word f.0 f.1)
+    → ((item : Item) (most : ℕ) → IsMarkName word item most → ⊥) → (item : Item) (most : ℕ) → IsNameOf true word item most → ⊥
+none_said word (Some f) is no_said no_mark item most named = absurd cc
+none_said word None is no_said no_mark item most (inl said) = no_said item most said
+none_said word None is no_said no_mark item most (inr mark) = no_mark item most mark
+
 pub name_asked : (is_reply : Bool) (word : List ℕ) (found : Option (Option Item × ℕ)) → bytes_eq word (codes "_") ≡ false
     → MatchOption found ((item : Item) (most : ℕ) → IsNameOf is_reply word item most → ⊥) (λ f. AsksName is_reply word f.0 f.1)
     → MatchOption found ((item : Option Item) (most : ℕ) → AsksName is_reply word item most → ⊥) (λ f. AsksName is_reply word f.0 f.1)
@@ -186,7 +194,37 @@ no_two mark words front back is_front is_back none p q two =
 pub no_never : (words front back : List (List ℕ)) → has_mark (codes "after") words ≡ true → front ≡ up_to (codes "after") words → back ≡ behind (codes "after") words
     → ((ps : Wanted × Wanted) → IsPattern front ps.0 × IsPattern back ps.1 → ⊥) → (a : RuleValue) → IsRuleOf keywords.Never words a → ⊥
 no_never words front back marked is_front is_back none a (inl x) = let e = sym x.2 ∙ marked in absurd cc
-no_never words front back marked is_front is_back none a (inr x) = no_two (codes "after") words front back is_front is_back none x.0 x.1 x.3
+no_never words front back marked is_front is_back none a (inr (inl x)) = no_two (codes "after") words front back is_front is_back none x.0 x.1 x.3
+no_never words front back marked is_front is_back none a (inr (inr x)) = no_after x.0 words x.2 marked
+
+pub no_plain_never : (words : List (List ℕ)) → has_mark (codes "after") words ≡ false → ((mark : Mark) → words ≡ mark_name mark ∷ [] → ⊥) → ((p : Wanted) → IsPattern words p → ⊥)
+    → (a : RuleValue) → IsRuleOf keywords.Never words a → ⊥
+no_plain_never words unmarked other none a (inl x) = none x.0 x.3
+no_plain_never words unmarked other none a (inr (inl x)) = let e = sym x.3.0 ∙ unmarked in absurd cc
+no_plain_never words unmarked other none a (inr (inr x)) = other x.0 x.2
+
+-- one word is a mark as it names one
+pub lone_read : (words : List Word) (first : Word) (rest : List Word) → words ≡ first ∷ rest → eqb (length rest) 0 ≡ true → (found : Option Mark)
+    → MatchOption found (mark_named first.text.now ≡ None) (λ m. first.text.now ≡ mark_name m) → MatchOption found ((mark : Mark) → texts words ≡ mark_name mark ∷ [] → ⊥) (λ m. texts words ≡ mark_name m ∷ [])
+lone_read words first (v ∷ rest) parts one found named = let e : length (v ∷ rest) ≡ 0 = eqb-true (length (v ∷ rest)) 0 one in absurd (omega (arith, e))
+lone_read words first [] parts one (Some m) named = rw parts (ap (λ t. t ∷ []) named)
+lone_read words first [] parts one None none = λ mark lone.
+    let here : texts (first ∷ []) ≡ mark_name mark ∷ [] = rw parts at lone in
+    let word : first.text.now ≡ mark_name mark = cc in
+    none_named mark_named mark_name mark_own first.text.now mark none word
+
+-- more words are none
+pub not_lone : (words : List Word) (first : Word) (rest : List Word) → words ≡ first ∷ rest → eqb (length rest) 0 ≡ false → (mark : Mark) → texts words ≡ mark_name mark ∷ [] → ⊥
+not_lone words first [] parts some mark lone = absurd cc
+not_lone words first (v ∷ rest) parts some mark lone =
+    let here : texts (first ∷ v ∷ rest) ≡ mark_name mark ∷ [] = rw parts at lone in
+    absurd cc
+
+-- words that are a step are no empty ones
+pub step_given : {X : Type 0} (words : List Word) → eqb (length words) 0 ≡ false → (view : X → List (Option Item)) (result : Result X Wrong)
+    → Gives view (IsStepPattern (texts words)) result → Gives view (IsStepOrAny (texts words)) result
+step_given [] some view result gives = absurd cc
+step_given (w ∷ words) some view result gives = gives
 
 pub no_before : (words commas front back : List (List ℕ)) → commas ≡ with_commas words → front ≡ up_to (codes ",") commas → back ≡ behind (codes ",") commas
     → ((ps : Wanted × Wanted) → IsPattern front ps.0 × IsPattern back ps.1 → ⊥) → (a : RuleValue) → IsRuleOf keywords.Before words a → ⊥

@@ -11,7 +11,9 @@ use Rattle.condition_script.specs.declared.keywords.Keyword.{Keyword}
 use Rattle.condition_script.specs.declared.keywords.Keyword.TheVariants as keywords
 use Rattle.condition_script.specs.declared.rules.Ending.{Ending}
 use Rattle.condition_script.specs.declared.rules.Ending.TheVariants.{Quiet}
-use Rattle.condition_script.specs.Grammar.{AreEndings, ArePatterns, AsksNumber, Before, CanEnd, Each, End, IsAsked, IsAsking, IsNameAndNumbers, IsPattern, IsRule, IsRuleOf, IsStepPattern, Never, NeverAfter, OfSome, RuleValue, Wanted, asked_words, behind, comma_apart, ending_word, ends_meant, has_mark, is_mark, most_numbers, rule_value, up_to, with_commas}
+use Rattle.condition_script.specs.declared.marks.Mark.{Mark}
+use Rattle.condition_script.specs.declared.marks.Mark.TheVariants.{Unsteady}
+use Rattle.condition_script.specs.Grammar.{AreEndings, ArePatterns, AsksNumber, Before, CanEnd, Each, End, IsAsked, IsAsking, IsNameAndNumbers, IsPattern, IsRule, IsRuleOf, IsStepPattern, Never, NeverAfter, OfSome, RuleValue, Wanted, asked_words, behind, comma_apart, ending_word, ends_meant, has_mark, is_mark, mark_name, marked, most_numbers, rule_value, up_to, with_commas}
 use Rattle.std.specs.Borrow.{Bor}
 use Rattle.condition_script.specs.declared.faults.Unread.{Unread}
 use Rattle.condition_script.specs.declared.faults.Wrong.{Wrong}
@@ -283,13 +285,21 @@ never_alone words none (inl (p, is)) = inl (Never p, inl (p, refl, none, is))
 never_alone words none (inr (p, is)) = inr (Never p, inl (p, refl, has_behind (codes "after") words (codes "_" ∷ []) none, is))
 
 never_after : (words : List (List ℕ)) → Reaches (ArePatternsOf (codes "after")) words → Reaches (IsOf keywords.Never) words
-never_after words (inl (p, q, are)) = inl (NeverAfter p q, inr (p, q, refl, are))
-never_after words (inr (p, q, are)) = inr (NeverAfter p q, inr (p, q, refl, are))
+never_after words (inl (p, q, are)) = inl (NeverAfter p q, inr (inl (p, q, refl, are)))
+never_after words (inr (p, q, are)) = inr (NeverAfter p q, inr (inl (p, q, refl, are)))
+
+never_mark : (words more : List (List ℕ)) (mark : Mark) → words ++ more ≡ mark_name mark ∷ [] → Reaches (IsOf keywords.Never) words
+never_mark [] more mark is = inr (Never any_wanted, inl (any_wanted, refl, refl, any_pattern))
+never_mark (word ∷ []) more mark is =
+    let same : word ≡ mark_name mark = cc in
+    inl (Never (marked mark (None ∷ [])), inr (inr (mark, refl, ap (λ w. w ∷ []) same)))
+never_mark (word ∷ other ∷ words) more mark is = let e = is in absurd cc
 
 never_goes : (words more : List (List ℕ)) (asked : RuleValue) → IsRuleOf keywords.Never (words ++ more) asked → Reaches (IsOf keywords.Never) words
 never_goes words more asked (inl x) =
     never_alone words (none_within (codes "after") words more x.2) (pattern_goes words more x.0 x.3)
-never_goes words more asked (inr x) = elim (bool_cases (has_mark (codes "after") words)) [
+never_goes words more asked (inr (inr x)) = never_mark words more x.0 x.2
+never_goes words more asked (inr (inl x)) = elim (bool_cases (has_mark (codes "after") words)) [
   | inl has ↦ never_after words (two_go (codes "after") words more x.0 x.1 has x.3)
   | inr none ↦ never_alone words none (first_goes (codes "after") words more x.0 none x.3.1)
 ]
@@ -401,6 +411,12 @@ can_goes (word ∷ words) more asked x =
     let front = can_front words more x.1 x.0 (let e = x.3 in cc) x.4 x.5 in
     goes (IsOf keywords.Can) (word ∷ words) (inl (CanEnd (ends_meant front.0), (front.0, words, refl, ap (λ w. w ∷ words) first, front.1, front.2)))
 
+steady_goes : (words more : List (List ℕ)) (asked : RuleValue) → IsRuleOf keywords.Steady (words ++ more) asked → GoesOn (IsOf keywords.Steady) words
+steady_goes [] more asked x = goes (IsOf keywords.Steady) [] (inl (Never (marked Unsteady (None ∷ [])), (None ∷ [], refl, refl)))
+steady_goes (actor ∷ words) more asked x =
+    let front = step_front actor words more x.0 x.2 in
+    goes (IsOf keywords.Steady) (actor ∷ words) (inl (Never (marked Unsteady front.0), (front.0, refl, front.1)))
+
 keyword_goes : (keyword : Keyword) (words more : List (List ℕ)) (asked : RuleValue) → IsRuleOf keyword (words ++ more) asked → GoesOn (IsOf keyword) words
 keyword_goes keywords.Never words more asked x = goes (IsOf keywords.Never) words (never_goes words more asked x)
 keyword_goes keywords.Some words more asked x = goes (IsOf keywords.Some) words (some_reached words (pattern_goes words more x.0 x.2))
@@ -408,6 +424,7 @@ keyword_goes keywords.Each words more asked x = each_goes words more asked x
 keyword_goes keywords.End words more asked x = end_goes words more asked x
 keyword_goes keywords.Before words more asked x = before_goes words more asked x
 keyword_goes keywords.Can words more asked x = can_goes words more asked x
+keyword_goes keywords.Steady words more asked x = steady_goes words more asked x
 
 -- ---- conditions
 

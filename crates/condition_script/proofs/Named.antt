@@ -10,9 +10,11 @@ use Rattle.script_lines.specs.Names.{op_named, op_word, said_named, said_word}
 use Rattle.line_words.specs.Values.{is_number, number_in, signed_in}
 use Rattle.condition_script.specs.declared.keywords.Keyword.{Keyword}
 use Rattle.condition_script.specs.declared.keywords.Keyword.TheVariants as keywords
+use Rattle.condition_script.specs.declared.marks.Mark.{Mark}
+use Rattle.condition_script.specs.declared.marks.Mark.TheVariants.{Stale, Unsteady}
 use Rattle.condition_script.specs.declared.rules.Ending.{Ending}
 use Rattle.condition_script.specs.declared.rules.Ending.TheVariants as endings
-use Rattle.condition_script.specs.Grammar.{ending_named, ending_word, keyword_named, keyword_word, number_item}
+use Rattle.condition_script.specs.Grammar.{ending_named, ending_word, keyword_named, keyword_word, mark_name, mark_named, number_item}
 
 -- two things that a word names are one
 pub one_named : {A : Type 0} (named : List ℕ → Option A) (word_of : A → List ℕ) → ((a : A) → named (word_of a) ≡ Some a) → (a b : A) → word_of a ≡ word_of b → a ≡ b
@@ -92,6 +94,7 @@ keyword_own keywords.Each = refl
 keyword_own keywords.End = refl
 keyword_own keywords.Before = refl
 keyword_own keywords.Can = refl
+keyword_own keywords.Steady = refl
 
 pub maybe_is_no_keyword : keyword_named (codes "maybe") ≡ None
 unfolding keyword_named
@@ -103,6 +106,31 @@ ending_own endings.Off = refl
 ending_own endings.HistoryFull = refl
 ending_own endings.Quiet = refl
 ending_own endings.Stuck = refl
+
+-- ---- marks
+
+pub mark_own : (mark : Mark) → mark_named (mark_name mark) ≡ Some mark
+unfolding mark_named
+mark_own Stale = refl
+mark_own Unsteady = refl
+
+pub any_is_no_mark : mark_named (codes "_") ≡ None
+unfolding mark_named
+any_is_no_mark = refl
+
+pub clock_is_no_mark : mark_named (codes "c") ≡ None
+unfolding mark_named
+clock_is_no_mark = refl
+
+pub mark_is_no_said : (mark : Mark) → said_named (mark_name mark) ≡ None
+unfolding said_named
+mark_is_no_said Stale = refl
+mark_is_no_said Unsteady = refl
+
+pub mark_is_no_hart : (limit : ℕ) (mark : Mark) → number_in limit (mark_name mark) ≡ None
+unfolding number_in is_number
+mark_is_no_hart limit Stale = refl
+mark_is_no_hart limit Unsteady = refl
 
 -- ---- numbers
 

@@ -10,10 +10,12 @@ use Rattle.line_words.specs.Values.{number_in}
 use Rattle.condition_script.specs.declared.items.Item.{Item}
 use Rattle.condition_script.specs.declared.keywords.Keyword.{Keyword}
 use Rattle.condition_script.specs.declared.keywords.Keyword.TheVariants as keywords
-use Rattle.condition_script.specs.Grammar.{AreEndings, ArePatterns, AsksActor, AsksName, AsksNumber, BeginsAsking, ConditionValue, HasCondition, HaveConditions, IsAsked, IsAsking, IsNameAndNumbers, IsNameOf, IsOperation, IsPattern, IsRule, IsRuleOf, IsStepPattern, RuleValue, Wanted, asked_words, ending_named, ending_word, keyword_named, keyword_word, number_item, with_commas}
+use Rattle.condition_script.specs.declared.marks.Mark.{Mark}
+use Rattle.condition_script.specs.declared.marks.Mark.TheVariants.{Stale, Unsteady}
+use Rattle.condition_script.specs.Grammar.{AreEndings, ArePatterns, AsksActor, AsksName, AsksNumber, BeginsAsking, ConditionValue, HasCondition, HaveConditions, IsAsked, IsAsking, IsNameAndNumbers, IsNameOf, IsOperation, IsPattern, IsRule, IsRuleOf, IsStepOrAny, IsStepPattern, RuleValue, Wanted, asked_words, ending_named, ending_word, has_mark, keyword_named, keyword_word, mark_name, mark_named, number_item, with_commas}
 use Rattle.condition_script.specs.declared.rules.Ending.{Ending}
 use Rattle.condition_script.specs.FirstFault.{HasOneReading, IsBeginning, IsCondition, IsFaultColumn, IsFirstUnreadable, IsLongestBeginning, IsReadable, IsUnreadable, column_behind}
-use Rattle.condition_script.proofs.Named.{any_is_no_hart, any_is_no_number, any_is_no_op, any_is_no_said, clock_is_no_hart, dash_is_no_number, ending_own, keyword_own, maybe_is_no_keyword, none_named, one_named, op_own, said_own}
+use Rattle.condition_script.proofs.Named.{any_is_no_hart, any_is_no_mark, any_is_no_number, any_is_no_op, any_is_no_said, clock_is_no_hart, clock_is_no_mark, dash_is_no_number, ending_own, keyword_own, mark_is_no_hart, mark_is_no_said, mark_own, maybe_is_no_keyword, none_named, one_named, op_own, said_own}
 
 -- a word with a value isn't one without
 other_word : {A : Type 0} (value : List ℕ → Option A) (word other : List ℕ) (a : A) → value word ≡ Some a → value other ≡ None → word ≡ other → ⊥
@@ -54,13 +56,19 @@ name_of_one : (is_reply : Bool) (word : List ℕ) (i j : Item) (m n : ℕ) → I
 name_of_one false word i j m n a b =
     let same = one_named op_named op_word op_own a.0 b.0 (sym a.1 ∙ b.1) in
     rw (a.2, b.2, a.3, b.3, same) (refl, refl)
-name_of_one true word i j m n a b =
+name_of_one true word i j m n (inl a) (inl b) =
     let same = one_named said_named said_word said_own a.0 b.0 (sym a.2 ∙ b.2) in
     rw (a.3, b.3, a.4, b.4, same) (refl, refl)
+name_of_one true word i j m n (inl a) (inr b) = absurd (none_named said_named said_word said_own (mark_name b.0) a.0 (mark_is_no_said b.0) (sym b.1 ∙ a.2))
+name_of_one true word i j m n (inr a) (inl b) = absurd (none_named said_named said_word said_own (mark_name a.0) b.0 (mark_is_no_said a.0) (sym a.1 ∙ b.2))
+name_of_one true word i j m n (inr a) (inr b) =
+    let same = one_named mark_named mark_name mark_own a.0 b.0 (sym a.1 ∙ b.1) in
+    rw (a.2, b.2, a.3, b.3, same) (refl, refl)
 
 pub any_is_no_name : (is_reply : Bool) (word : List ℕ) (i : Item) (m : ℕ) → word ≡ codes "_" → IsNameOf is_reply word i m → ⊥
 any_is_no_name false word i m any a = none_named op_named op_word op_own (codes "_") a.0 any_is_no_op (sym any ∙ a.1)
-any_is_no_name true word i m any a = none_named said_named said_word said_own (codes "_") a.0 any_is_no_said (sym any ∙ a.2)
+any_is_no_name true word i m any (inl a) = none_named said_named said_word said_own (codes "_") a.0 any_is_no_said (sym any ∙ a.2)
+any_is_no_name true word i m any (inr a) = none_named mark_named mark_name mark_own (codes "_") a.0 any_is_no_mark (sym any ∙ a.1)
 
 pub name_one : (is_reply : Bool) (word : List ℕ) (i j : Option Item) (m n : ℕ) → AsksName is_reply word i m → AsksName is_reply word j n → (i ≡ j) × (m ≡ n)
 name_one is_reply word i j m n (inl a) (inl b) = (a.1 ∙ sym b.1, a.2 ∙ sym b.2)
@@ -95,6 +103,35 @@ step_one [] i j a b = absurd a
 step_one (actor ∷ words) i j (x, xs, is_x, asks_x, more_x) (y, ys, is_y, asks_y, more_y) =
     rw (is_x, is_y, actor_one actor x y asks_x asks_y, operation_one words xs ys more_x more_y) refl
 
+step_or_any_one : (words : List (List ℕ)) (i j : List (Option Item)) → IsStepOrAny words i → IsStepOrAny words j → i ≡ j
+step_or_any_one [] i j a b = a ∙ sym b
+step_or_any_one (actor ∷ words) i j a b = step_one (actor ∷ words) i j a b
+
+-- ---- a mark that stands alone
+
+actor_is_no_mark : (mark : Mark) (item : Option Item) → AsksActor (mark_name mark) item → ⊥
+actor_is_no_mark mark item (inl a) = none_named mark_named mark_name mark_own (codes "_") mark any_is_no_mark (sym a.0)
+actor_is_no_mark mark item (inr (inl a)) = none_named mark_named mark_name mark_own (codes "c") mark clock_is_no_mark (sym a.0)
+actor_is_no_mark mark item (inr (inr a)) = let e = sym a.1 ∙ mark_is_no_hart last_hart mark in cc
+
+no_arrow : (mark : Mark) → has_mark (codes "->") (mark_name mark ∷ []) ≡ true → ⊥
+no_arrow Stale e = cc
+no_arrow Unsteady e = cc
+
+pub no_after : (mark : Mark) (words : List (List ℕ)) → words ≡ mark_name mark ∷ [] → has_mark (codes "after") words ≡ true → ⊥
+no_after mark words is e = by_mark mark (subst (λ (ws : List (List ℕ)). has_mark (codes "after") ws ≡ true) is e)
+  where
+    by_mark : (mark : Mark) → has_mark (codes "after") (mark_name mark ∷ []) ≡ true → ⊥
+    by_mark Stale e = cc
+    by_mark Unsteady e = cc
+
+mark_is_no_pattern : (mark : Mark) (p : Wanted) → IsPattern (mark_name mark ∷ []) p → ⊥
+mark_is_no_pattern mark p (inl x) = actor_is_no_mark mark x.1.0 x.1.3
+mark_is_no_pattern mark p (inr x) = no_arrow mark x.0
+
+no_pattern : (mark : Mark) (words : List (List ℕ)) (p : Wanted) → words ≡ mark_name mark ∷ [] → IsPattern words p → ⊥
+no_pattern mark words p is pattern = mark_is_no_pattern mark p (subst (λ (ws : List (List ℕ)). IsPattern ws p) is pattern)
+
 -- ---- patterns
 
 wanted_same : (p q : Wanted) → p.step ≡ q.step → p.reply ≡ q.reply → p ≡ q
@@ -118,11 +155,19 @@ endings_one words s t a b =
 
 asks_one : (keyword : Keyword) (words : List (List ℕ)) (a b : RuleValue) → IsRuleOf keyword words a → IsRuleOf keyword words b → a ≡ b
 asks_one keywords.Never words a b (inl x) (inl y) = rw (x.1, y.1, pattern_one words x.0 y.0 x.3 y.3) refl
-asks_one keywords.Never words a b (inl x) (inr y) = absurd (let e = sym x.2 ∙ y.3.0 in cc)
-asks_one keywords.Never words a b (inr x) (inl y) = absurd (let e = sym y.2 ∙ x.3.0 in cc)
-asks_one keywords.Never words a b (inr x) (inr y) =
+asks_one keywords.Never words a b (inl x) (inr (inl y)) = absurd (let e = sym x.2 ∙ y.3.0 in cc)
+asks_one keywords.Never words a b (inl x) (inr (inr y)) = absurd (no_pattern y.0 words x.0 y.2 x.3)
+asks_one keywords.Never words a b (inr (inl x)) (inl y) = absurd (let e = sym y.2 ∙ x.3.0 in cc)
+asks_one keywords.Never words a b (inr (inl x)) (inr (inl y)) =
     let same = patterns_one (codes "after") words x.0 x.1 y.0 y.1 x.3 y.3 in
     rw (x.2, y.2, same.0, same.1) refl
+asks_one keywords.Never words a b (inr (inl x)) (inr (inr y)) = absurd (no_after y.0 words y.2 x.3.0)
+asks_one keywords.Never words a b (inr (inr x)) (inl y) = absurd (no_pattern x.0 words y.0 x.2 y.3)
+asks_one keywords.Never words a b (inr (inr x)) (inr (inl y)) = absurd (no_after x.0 words x.2 y.3.0)
+asks_one keywords.Never words a b (inr (inr x)) (inr (inr y)) =
+    let both = sym x.2 ∙ y.2 in
+    let same = one_named mark_named mark_name mark_own x.0 y.0 (cc) in
+    rw (x.1, y.1, same) refl
 asks_one keywords.Some words a b x y = rw (x.1, y.1, pattern_one words x.0 y.0 x.2 y.2) refl
 asks_one keywords.Each words a b x y = rw (x.1, y.1, pattern_one words x.0 y.0 x.2 y.2) refl
 asks_one keywords.End words a b x y =
@@ -134,6 +179,7 @@ asks_one keywords.Can words a b x y =
     let others : y.1 ≡ x.1 = let e = sym y.3 ∙ x.3 in cc in
     let same = endings_one x.1 x.0 y.0 x.5 (subst (λ (w : List (List ℕ)). AreEndings w y.0) others y.5) in
     rw (x.2, y.2, same) refl
+asks_one keywords.Steady words a b x y = rw (x.1, y.1, step_or_any_one words x.0 y.0 x.2 y.2) refl
 
 asked_one : (words : List (List ℕ)) (a b : RuleValue) → IsAsked words a → IsAsked words b → a ≡ b
 asked_one [] a b x y = absurd x

@@ -16,7 +16,10 @@ use Rattle.condition_script.specs.declared.items.Item.{Item}
 use Rattle.condition_script.specs.declared.items.Item.TheVariants.{Word, Number, Below, Absent}
 use Rattle.condition_script.specs.declared.keywords.Keyword.{Keyword}
 use Rattle.condition_script.specs.declared.keywords.Keyword.TheVariants as keywords
+use Rattle.condition_script.specs.declared.marks.Mark.{Mark}
+use Rattle.condition_script.specs.declared.marks.Mark.TheVariants.{Stale, Unsteady}
 use Rattle.condition_script.specs.declared.names.Name.TheVariants.{Clock, Op, Said}
+use Rattle.condition_script.specs.declared.names.Name.TheVariants as names
 use Rattle.condition_script.specs.declared.patterns.Pattern.{Pattern}
 use Rattle.condition_script.specs.declared.reading.Condition.{Condition}
 use Rattle.condition_script.specs.declared.rules.Ending.{Ending}
@@ -81,13 +84,34 @@ abbrev pub most_numbers : (is_reply : Bool) → ℕ
 most_numbers false = OP_NUMBERS
 most_numbers true = SAID_NUMBERS
 
--- A name of the one table, and how many numbers may follow it. No reply of an accepted step is `refused`.
+-- the words of marks
+abbrev pub mark_name : Mark → List ℕ
+mark_name Stale = codes "stale"
+mark_name Unsteady = codes "unsteady"
+
+abbrev pub mark_names : List Mark
+mark_names = Stale ∷ Unsteady ∷ []
+
+-- the mark that a word names
+unfoldable pub mark_named : List ℕ → Option Mark
+mark_named word = by_word mark_name mark_names word
+
+-- The name of a reply, and how many numbers may follow it. No reply of an accepted step is `refused`.
+abbrev pub IsSaidName : List ℕ → Item → (most : ℕ) → Type 0
+IsSaidName word item most =
+    (name : SaidName) × (name ≢ Refused) × (word ≡ said_word name) × (item ≡ Word (Said name))
+    × (most ≡ (said_places name).most)
+
+-- A mark, which stands in a reply's place. No number follows it.
+abbrev pub IsMarkName : List ℕ → Item → (most : ℕ) → Type 0
+IsMarkName word item most =
+    (mark : Mark) × (word ≡ mark_name mark) × (item ≡ Word (names.Mark mark)) × (most ≡ 0)
+
+-- A name of the one table, or a mark, and how many numbers may follow it.
 abbrev pub IsNameOf : (is_reply : Bool) → List ℕ → Item → (most : ℕ) → Type 0
 IsNameOf false word item most =
     (name : OpName) × (word ≡ op_word name) × (item ≡ Word (Op name)) × (most ≡ (op_places name).most)
-IsNameOf true word item most =
-    (name : SaidName) × (name ≢ Refused) × (word ≡ said_word name) × (item ≡ Word (Said name))
-    × (most ≡ (said_places name).most)
+IsNameOf true word item most = IsSaidName word item most ⊎ IsMarkName word item most
 
 -- The name of an operation or of a reply, or `_`.
 abbrev pub AsksName : (is_reply : Bool) → List ℕ → Option Item → (most : ℕ) → Type 0
@@ -138,6 +162,15 @@ IsStepPattern (actor ∷ words) items =
     (item : Option Item) × (others : List (Option Item)) × (items ≡ item ∷ others) × AsksActor actor item
     × IsOperation words others
 
+-- An actor, and its operation. Without words it is any step.
+abbrev pub IsStepOrAny : List (List ℕ) → List (Option Item) → Type 0
+IsStepOrAny [] items = items ≡ None ∷ []
+IsStepOrAny (actor ∷ words) items = IsStepPattern (actor ∷ words) items
+
+-- the pattern of a step with a mark in its reply's place
+abbrev pub marked : Mark → List (Option Item) → Wanted
+marked mark step = record { step = step; reply = Some (Word (names.Mark mark)) ∷ [] }
+
 -- whether one of the words is the mark, the words before the first mark, and those after it
 abbrev pub is_mark : (mark word : List ℕ) → Bool
 is_mark mark word = bytes_eq word mark
@@ -174,9 +207,10 @@ keyword_word keywords.Each = codes "each"
 keyword_word keywords.End = codes "end"
 keyword_word keywords.Before = codes "before"
 keyword_word keywords.Can = codes "can"
+keyword_word keywords.Steady = codes "steady"
 
 abbrev pub keyword_names : List Keyword
-keyword_names = keywords.Never ∷ keywords.Some ∷ keywords.Each ∷ keywords.End ∷ keywords.Before ∷ keywords.Can ∷ []
+keyword_names = keywords.Never ∷ keywords.Some ∷ keywords.Each ∷ keywords.End ∷ keywords.Before ∷ keywords.Can ∷ keywords.Steady ∷ []
 
 -- the keyword that a word is
 unfoldable pub keyword_named : List ℕ → Option Keyword
@@ -216,11 +250,12 @@ comma_apart word = if has_comma word then take (length word - 1) word ∷ codes 
 abbrev pub with_commas : List (List ℕ) → List (List ℕ)
 with_commas words = flat_map comma_apart words
 
--- What the words after a keyword ask.
+-- What the words after a keyword ask. `never MARK` is `never _ -> MARK`, and `steady P` is `never P -> unsteady`.
 abbrev pub IsRuleOf : Keyword → List (List ℕ) → RuleValue → Type 0
 IsRuleOf keywords.Never words asked =
     ((p : Wanted) × (asked ≡ Never p) × (has_mark (codes "after") words ≡ false) × IsPattern words p)
     ⊎ ((p q : Wanted) × (asked ≡ NeverAfter p q) × ArePatterns (codes "after") words p q)
+    ⊎ ((mark : Mark) × (asked ≡ Never (marked mark (None ∷ []))) × (words ≡ mark_name mark ∷ []))
 IsRuleOf keywords.Some words asked = (p : Wanted) × (asked ≡ OfSome p) × IsPattern words p
 IsRuleOf keywords.Each words asked = (p : Wanted) × (asked ≡ Each p) × IsPattern words p × (p.reply ≢ [])
 IsRuleOf keywords.End words asked = (ends : List Ending) × (asked ≡ End ends) × (words ≢ []) × AreEndings words ends
@@ -229,6 +264,8 @@ IsRuleOf keywords.Before words asked =
 IsRuleOf keywords.Can words asked =
     (ends : List Ending) × (others : List (List ℕ)) × (asked ≡ CanEnd (ends_meant ends)) × (words ≡ codes "end" ∷ others)
     × (has_mark (codes "history-full") others ≡ false) × AreEndings others ends
+IsRuleOf keywords.Steady words asked =
+    (step : List (Option Item)) × (asked ≡ Never (marked Unsteady step)) × IsStepOrAny words step
 
 -- The words of a condition.
 abbrev pub IsAsked : List (List ℕ) → RuleValue → Type 0

@@ -1,16 +1,20 @@
 //! Reads the words of a condition.
-ghost use Rattle.std.specs.Prelude.{◌+◌, ◌<◌, Bool, drop, length, take};
-ghost use Rattle.condition_script.specs.Grammar.{AreEndings, RuleValue, IsRuleOf, IsAsked, IsPattern, IsRule, Wanted, rule_value, wanted};
+ghost use Rattle.std.specs.Prelude.{◌≡◌, ◌+◌, ◌<◌, ◌∷◌, [], Bool, IfOk, MatchOption, None, drop, length, take};
+ghost use Rattle.condition_script.specs.Grammar.{AreEndings, Never as NeverValue, RuleValue, IsRuleOf, IsAsked, IsPattern, IsRule, Wanted, mark_name, marked, rule_value, wanted};
 ghost use Rattle.condition_script.specs.Inside.Reading.{Gives, texts};
 ghost use Rattle.condition_script.specs.declared.keywords.Keyword.TheVariants as keywords;
+ghost use Rattle.condition_script.specs.declared.marks.Mark.{Mark as Marking};
 
 use crate::faults::Wrong;
+use crate::items::Item;
 use crate::keywords::Keyword;
-use crate::pattern_words::{reply, step};
+use crate::marks::Mark;
+use crate::names::Name;
+use crate::pattern_words::{any_step, reply, step, step_or_any};
 use crate::patterns::Pattern;
 use crate::rules::{Ending, Rule};
 use crate::words::{Word, place_of, with_commas};
-use std::alloc::Global;
+use std::alloc::{AllocError, Global};
 
 /// Reads words as a condition, and whether it begins with `maybe`.
 pub(crate) fn asked_rule(alloc: Global, words: &[Word<'_>]) -> Result<(bool, Rule), Wrong>
@@ -49,10 +53,34 @@ fn asks(alloc: Global, keyword: Keyword, words: &[Word<'_>]) -> Result<Rule, Wro
         Keyword::End => ends(alloc, words),
         Keyword::Before => ordered(alloc, words),
         Keyword::Can => can_end(alloc, words),
+        Keyword::Steady => steady(alloc, words),
     }
 }
 
 fn never(alloc: Global, words: &[Word<'_>]) -> Result<Rule, Wrong>
+    ensures { Gives rule_value (IsRuleOf keywords.Never (texts words.now)) result }
+{
+    match lone_mark(words) {
+        Some(mark) => Ok(never_marked(alloc, mark)?),
+        None => never_matched(alloc, words),
+    }
+}
+
+/// No step has the mark.
+///
+/// # Errors
+///
+/// Out of memory.
+fn never_marked(alloc: Global, mark: Mark) -> Result<Rule, AllocError>
+    ensures { IfOk result (λ rule. rule_value rule ≡ NeverValue (marked mark (None ∷ []))) }
+{
+    let any = any_step(alloc)?;
+    Ok(Rule::Never(marked(alloc, mark, any)?))
+}
+
+/// No step is one of a pattern, or of a pattern after one of another.
+fn never_matched(alloc: Global, words: &[Word<'_>]) -> Result<Rule, Wrong>
+    requires { (mark : Marking) → texts words.now ≡ mark_name mark ∷ [] → ⊥ }
     ensures { Gives rule_value (IsRuleOf keywords.Never (texts words.now)) result }
 {
     match place_of(words, b"after") {
@@ -62,6 +90,42 @@ fn never(alloc: Global, words: &[Word<'_>]) -> Result<Rule, Wrong>
         }
         None => Ok(Rule::Never(pattern(alloc, words)?)),
     }
+}
+
+/// The mark that these words are, if they are one word.
+fn lone_mark(words: &[Word<'_>]) -> Option<Mark>
+    ensures { MatchOption result ((mark : Marking) → texts words.now ≡ mark_name mark ∷ [] → ⊥)
+        (λ mark. texts words.now ≡ mark_name mark ∷ []) }
+{
+    let Some((first, rest)) = words.split_first() else {
+        return None;
+    };
+    if rest.is_empty() {
+        Mark::of(first.text)
+    } else {
+        None
+    }
+}
+
+/// No step of a pattern is unsteady.
+fn steady(alloc: Global, words: &[Word<'_>]) -> Result<Rule, Wrong>
+    ensures { Gives rule_value (IsRuleOf keywords.Steady (texts words.now)) result }
+{
+    let step = step_or_any(alloc, words)?;
+    Ok(Rule::Never(marked(alloc, Mark::Unsteady, step)?))
+}
+
+/// The pattern of a step with this mark in the place of its reply.
+///
+/// # Errors
+///
+/// Out of memory.
+fn marked(alloc: Global, mark: Mark, step: Vec<Option<Item>>) -> Result<Pattern, AllocError>
+    ensures { IfOk result (λ p. wanted p ≡ marked mark step.items) }
+{
+    let mut reply = Vec::new(alloc);
+    reply.push(Some(Item::Word(Name::Mark(mark))))?;
+    Ok(Pattern { step, reply })
 }
 
 fn some(alloc: Global, words: &[Word<'_>]) -> Result<Rule, Wrong>

@@ -17,6 +17,8 @@ pub enum Keyword {
     Before,
     /// `can`
     Can,
+    /// `steady`
+    Steady,
 }
 
 impl Keyword {
@@ -32,6 +34,7 @@ impl Keyword {
             b"end" => Some(Keyword::End),
             b"before" => Some(Keyword::Before),
             b"can" => Some(Keyword::Can),
+            b"steady" => Some(Keyword::Steady),
             _ => None,
         }
     }

@@ -1,8 +1,9 @@
-//! The words of a step that aren't numbers, from the table of operations and replies.
+//! The words of a step that aren't numbers: from the table of operations and replies, and the marks.
+use crate::marks::Mark;
 use script_lines::{OpName, SaidName};
 use std::fmt::{Debug, Error, Formatter, Write};
 
-/// A word of a step that isn't a number: the clock's, an operation's name, or a reply's.
+/// A word of a step that isn't a number: the clock's, an operation's name, a reply's, or a mark in a reply's place.
 #[derive(Clone, Copy, PartialEq, Eq)]
 pub enum Name {
     /// `c`
@@ -11,6 +12,8 @@ pub enum Name {
     Op(OpName),
     /// The word of a reply.
     Said(SaidName),
+    /// The word of a mark.
+    Mark(Mark),
 }
 
 impl Debug for Name {
@@ -19,6 +22,7 @@ impl Debug for Name {
             Name::Clock => f.write_str("Clock"),
             Name::Op(name) => name.fmt(f),
             Name::Said(name) => name.fmt(f),
+            Name::Mark(mark) => mark.fmt(f),
         }
     }
 }

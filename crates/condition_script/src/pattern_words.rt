@@ -1,16 +1,17 @@
 //! The words of a pattern: an actor, names, and numbers.
-ghost use Rattle.std.specs.Prelude.{◌≡◌, ℕ, MatchOption, Option, false, true};
-ghost use Rattle.condition_script.specs.Grammar.{AreNumberWords, AsksActor, AsksName, AsksNumber, IsNameOf, IsNameAndNumbers, IsStepPattern, most_numbers};
+ghost use Rattle.std.specs.Prelude.{◌≡◌, ◌∷◌, [], ℕ, IfOk, MatchOption, None, Option, false, true};
+ghost use Rattle.condition_script.specs.Grammar.{AreNumberWords, AsksActor, AsksName, AsksNumber, IsMarkName, IsNameOf, IsNameAndNumbers, IsSaidName, IsStepOrAny, IsStepPattern, most_numbers};
 ghost use Rattle.condition_script.specs.Inside.Reading.{Gives, Puts, texts};
 ghost use Rattle.condition_script.specs.declared.items.Item.{Item as Word};
 
 use crate::faults::Wrong;
 use crate::items::Item;
+use crate::marks::Mark;
 use crate::names::Name;
 use crate::words::Word as Placed;
 use line_words::{number as unsigned_number, signed_number};
 use script_lines::{LAST_HART, OP_NUMBERS, OpName, SAID_NUMBERS, SaidName};
-use std::alloc::Global;
+use std::alloc::{AllocError, Global};
 
 /// Reads words as a step: an actor, and its operation.
 pub(crate) fn step(alloc: Global, words: &[Placed<'_>]) -> Result<Vec<Option<Item>>, Wrong>
@@ -27,6 +28,29 @@ pub(crate) fn step(alloc: Global, words: &[Placed<'_>]) -> Result<Vec<Option<Ite
     if !rest.is_empty() {
         named(rest, false, &mut found)?;
     }
+    Ok(found)
+}
+
+/// Reads words as a step. No word is any step.
+pub(crate) fn step_or_any(alloc: Global, words: &[Placed<'_>]) -> Result<Vec<Option<Item>>, Wrong>
+    ensures { Gives (λ found. found.items) (IsStepOrAny (texts words.now)) result }
+{
+    if words.is_empty() {
+        return Ok(any_step(alloc)?);
+    }
+    step(alloc, words)
+}
+
+/// Any step.
+///
+/// # Errors
+///
+/// Out of memory.
+pub(crate) fn any_step(alloc: Global) -> Result<Vec<Option<Item>>, AllocError>
+    ensures { IfOk result (λ found. found.items ≡ None ∷ []) }
+{
+    let mut found = Vec::new(alloc);
+    found.push(None)?;
     Ok(found)
 }
 
@@ -112,15 +136,40 @@ fn op_name(word: &[u8]) -> Option<(Option<Item>, usize)>
     }
 }
 
-/// The name of a reply, and how many numbers may follow it.
+/// The name of a reply, or a mark in its place, and how many numbers may follow it.
 fn said_name(word: &[u8]) -> Option<(Option<Item>, usize)>
     ensures { MatchOption result ((item : Word) (most : ℕ) → IsNameOf true word.now item most → ⊥)
         (λ found. AsksName true word.now found.0 found.1) }
 {
+    if let Some((name, most)) = reply_name(word) {
+        return Some((Some(name), most));
+    }
+    match mark_name(word) {
+        Some((name, most)) => Some((Some(name), most)),
+        None => None,
+    }
+}
+
+/// The name of a reply, and how many numbers may follow it.
+fn reply_name(word: &[u8]) -> Option<(Item, usize)>
+    ensures { MatchOption result ((item : Word) (most : ℕ) → IsSaidName word.now item most → ⊥)
+        (λ found. IsSaidName word.now found.0 found.1) }
+{
     match SaidName::of(word) {
         None => None,
         Some(SaidName::Refused) => None,
-        Some(name) => Some((Some(Item::Word(Name::Said(name))), name.places().most)),
+        Some(name) => Some((Item::Word(Name::Said(name)), name.places().most)),
+    }
+}
+
+/// A mark, which no number follows.
+fn mark_name(word: &[u8]) -> Option<(Item, usize)>
+    ensures { MatchOption result ((item : Word) (most : ℕ) → IsMarkName word.now item most → ⊥)
+        (λ found. IsMarkName word.now found.0 found.1) }
+{
+    match Mark::of(word) {
+        Some(mark) => Some((Item::Word(Name::Mark(mark)), 0)),
+        None => None,
     }
 }
 

@@ -42,7 +42,7 @@ impl Ending {
 /// A condition on records.
 #[derive(Debug, Drop)]
 pub enum Rule {
-    /// `never P`: P matches no step.
+    /// `never P`: P matches no step. So are `never MARK`, of any step, and `steady P`, of the mark `unsteady`.
     Never(Pattern),
     /// `never P after Q`: no step that P matches comes later than one that Q matches.
     NeverAfter(Pattern, Pattern),

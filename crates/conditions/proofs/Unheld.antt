@@ -8,12 +8,14 @@ use Rattle.script_lines.specs.declared.said_name.SaidName.{SaidName}
 use Rattle.condition_script.specs.declared.items.Item.{Item}
 use Rattle.condition_script.specs.declared.items.Item.TheVariants.{Word}
 use Rattle.conditions.specs.declared.misfits.Misfit.{Misfit}
-use Rattle.conditions.specs.declared.misfits.Misfit.TheVariants.{NoReply}
+use Rattle.conditions.specs.declared.misfits.Misfit.TheVariants.{NoMark, NoReply, Untold}
+use Rattle.condition_script.specs.declared.marks.Mark.{Mark}
 use Rattle.condition_script.specs.declared.names.Name.TheVariants.{Op, Said}
+use Rattle.condition_script.specs.declared.names.Name.TheVariants as names
 use Rattle.condition_script.specs.declared.patterns.Pattern.{Pattern}
 use Rattle.condition_script.specs.declared.rules.Rule.{Rule}
 use Rattle.conditions.specs.Inside.Held.{HasAnswer, HasHeldAt, HasNoAnswer, HasRightAt, IsDoneBy, meant, no_reply}
-use Rattle.conditions.specs.Misfits.{CanDo, IsAnswerMisfit, IsClocks, IsDoerMisfit, IsMisfit, IsOpMisfit, IsReplyMisfit, IsWrongAnswer, IsWrongInReply, MeansOp, OpCanHave, IsWordAt, is_reply_to}
+use Rattle.conditions.specs.Misfits.{CanDo, IsAnswerMisfit, IsClocks, IsDoerMisfit, IsMarkMisfit, IsMarked, IsMisfitBy, IsOpMisfit, IsReplyMisfit, IsWrongAnswer, IsWrongInReply, MeansOp, OpCanHave, IsWordAt, is_access, is_reply_to}
 
 -- ---- an operation's words
 
@@ -147,11 +149,36 @@ done-at p actor stands None done = λ any is.
     is.unable (subst (λ a. CanDo a is.op) same (done is.op is.named))
 done-at p actor stands (Some misfit) is = is
 
+-- ---- marks
+
+pub mark-none : (told : Bool) (p : Pattern) → ((mark : Mark) → IsMarked p mark → ⊥) → (any : Misfit) → ¬ IsMarkMisfit told p any
+mark-none false p none any is = none is.0 is.1
+mark-none true p none any is = none is.0 is.1
+
+pub untold : (told : Bool) (p : Pattern) (mark : Mark) → told ≡ false → IsMarked p mark → IsMarkMisfit told p (Untold mark)
+untold false p mark is marked = (mark, marked, refl)
+untold true p mark is marked = cc
+
+pub of-none : (told : Bool) (p : Pattern) (mark : Mark) (op : OpName) → told ≡ true → IsMarked p mark → MeansOp p op → is_access op ≡ false → IsMarkMisfit told p (NoMark op mark)
+of-none false p mark op is marked means other = cc
+of-none true p mark op is marked means other = (mark, marked, (op, means, other, refl))
+
+pub of-one : (told : Bool) (p : Pattern) (op : OpName) → told ≡ true → MeansOp p op → is_access op ≡ true → (any : Misfit) → ¬ IsMarkMisfit told p any
+of-one false p op is means access any found = cc
+of-one true p op is means access any found =
+    let yes = subst (λ (o : OpName). is_access o ≡ true) (same-meant p op found.2.0 means found.2.1) access in
+    let no = found.2.2 in
+    cc
+
+pub of-access : (told : Bool) (p : Pattern) → told ≡ true → ((op : OpName) → MeansOp p op → is_access op ≡ true) → (any : Misfit) → ¬ IsMarkMisfit told p any
+of-access false p is access any found = cc
+of-access true p is access any found = let yes = access found.2.0 found.2.1 in let no = found.2.2 in cc
+
 -- ---- conditions
 
-pub misfit-by : (harts : ℕ) (self rule : Rule) → self ≡ rule → (found : Option Misfit)
-    → MatchOption found ((any : Misfit) → ¬ IsMisfit harts rule any) (IsMisfit harts rule)
-    → MatchOption found ((any : Misfit) → ¬ IsMisfit harts self any) (IsMisfit harts self)
-misfit-by harts self rule same found is =
-    let P : Rule → Type 0 = λ r. MatchOption found ((any : Misfit) → ¬ IsMisfit harts r any) (IsMisfit harts r) in
+pub misfit-by : (told : Bool) (harts : ℕ) (self rule : Rule) → self ≡ rule → (found : Option Misfit)
+    → MatchOption found ((any : Misfit) → ¬ IsMisfitBy told harts rule any) (IsMisfitBy told harts rule)
+    → MatchOption found ((any : Misfit) → ¬ IsMisfitBy told harts self any) (IsMisfitBy told harts self)
+misfit-by told harts self rule same found is =
+    let P : Rule → Type 0 = λ r. MatchOption found ((any : Misfit) → ¬ IsMisfitBy told harts r any) (IsMisfitBy told harts r) in
     subst P (sym same) is

@@ -2,6 +2,7 @@ pub use Rattle.condition_script.specs.FirstFault
 pub use Rattle.condition_script.specs.Grammar
 pub use Rattle.condition_script.specs.contracts.items.ItemPartialEq
 pub use Rattle.condition_script.specs.declared.items.Item
+pub use Rattle.condition_script.specs.declared.marks.Mark
 pub use Rattle.condition_script.specs.declared.names.Name
 pub use Rattle.condition_script.specs.declared.patterns.Pattern
 pub use Rattle.condition_script.specs.declared.reading.Condition

@@ -12,8 +12,10 @@ use Rattle.script_lines.specs.declared.said_name.SaidName.TheVariants as saids
 use Rattle.condition_script.specs.declared.items.Item.{Item}
 use Rattle.condition_script.specs.declared.items.Item.TheVariants.{Word, Number, Below, Absent}
 use Rattle.conditions.specs.declared.misfits.Misfit.{Misfit}
-use Rattle.conditions.specs.declared.misfits.Misfit.TheVariants.{NoHart, OtherActor, Unheld, NoReply, NoAnswer}
+use Rattle.conditions.specs.declared.misfits.Misfit.TheVariants.{NoHart, OtherActor, Unheld, NoReply, NoAnswer, Untold, NoMark}
+use Rattle.condition_script.specs.declared.marks.Mark.{Mark}
 use Rattle.condition_script.specs.declared.names.Name.TheVariants.{Clock, Op, Said}
+use Rattle.condition_script.specs.declared.names.Name.TheVariants as names
 use Rattle.condition_script.specs.declared.patterns.Pattern.{Pattern}
 use Rattle.condition_script.specs.declared.rules.Rule.{Rule}
 use Rattle.condition_script.specs.declared.rules.Rule.TheVariants.{Never, NeverAfter, OfSome, Each, End, Before, CanEnd}
@@ -132,6 +134,24 @@ IsClocks p = IsWordAt p.step.items 0 (Word Clock)
 abbrev pub MeansOp : Pattern → OpName → Type 0
 MeansOp p op = (IsClocks p × (op ≡ Tick)) ⊎ ((IsClocks p → ⊥) × IsWordAt p.step.items 1 (Word (Op op)))
 
+-- the mark in the place of a pattern's reply
+abbrev pub IsMarked : Pattern → Mark → Type 0
+IsMarked p mark = IsWordAt p.reply.items 0 (Word (names.Mark mark))
+
+-- whether an operation of this name is an access
+abbrev pub is_access : OpName → Bool
+is_access Load = true
+is_access Store = true
+is_access Fetch = true
+is_access (Amo name) = true
+is_access op = false
+
+-- The pattern has a mark that no step can have: any, if the records tell none; otherwise that of an operation that is no access.
+abbrev pub IsMarkMisfit : (told : Bool) → Pattern → Misfit → Type 0
+IsMarkMisfit false p misfit = (mark : Mark) × IsMarked p mark × (misfit ≡ Untold mark)
+IsMarkMisfit true p misfit =
+    (mark : Mark) × IsMarked p mark × ((op : OpName) × MeansOp p op × (is_access op ≡ false) × (misfit ≡ NoMark op mark))
+
 -- The actor of a pattern can't do its operation.
 pub record IsDoerMisfit (p : Pattern) (misfit : Misfit) : Type 0 where
   pub actor : Item
@@ -196,19 +216,28 @@ module _ (harts : ℕ) where
     pub stands : IsWordAt p.reply.items place item
     pub wrong : IsWrongInReply p said place item misfit
 
-  -- The pattern has a word that these rules exclude from its place on a board with so many harts, an operation that its actor can't do, or
-  -- a reply that its operation can't have.
-  abbrev pub IsMisfitOf : Pattern → Misfit → Type 0
-  IsMisfitOf p misfit =
-      (IsActorMisfit p misfit ⊎ (IsDoerMisfit p misfit ⊎ IsOpMisfit p misfit)) ⊎ (IsAnswerMisfit p misfit ⊎ IsReplyMisfit p misfit)
+-- The pattern has a word that these rules exclude from its place on a board with so many harts, an operation that its actor can't do, or
+-- a reply or a mark that its operation can't have. Whether records tell marks is given.
+abbrev pub IsMisfitOf : (told : Bool) → (harts : ℕ) → Pattern → Misfit → Type 0
+IsMisfitOf told harts p misfit =
+    (IsActorMisfit harts p misfit ⊎ (IsDoerMisfit p misfit ⊎ IsOpMisfit p misfit))
+    ⊎ (IsAnswerMisfit p misfit ⊎ (IsMarkMisfit told p misfit ⊎ IsReplyMisfit harts p misfit))
+
+-- One of a condition's patterns has such a word.
+abbrev pub IsMisfitBy : (told : Bool) → (harts : ℕ) → Rule → Misfit → Type 0
+IsMisfitBy told harts (Never p) misfit = IsMisfitOf told harts p misfit
+IsMisfitBy told harts (NeverAfter p q) misfit = IsMisfitOf told harts p misfit ⊎ IsMisfitOf told harts q misfit
+IsMisfitBy told harts (OfSome p) misfit = IsMisfitOf told harts p misfit
+IsMisfitBy told harts (Each p) misfit = IsMisfitOf told harts p misfit
+IsMisfitBy told harts (End ends) misfit = ⊥
+IsMisfitBy told harts (Before p q) misfit = IsMisfitOf told harts p misfit ⊎ IsMisfitOf told harts q misfit
+IsMisfitBy told harts (CanEnd ends) misfit = ⊥
 
 -- One of a condition's patterns has such a word: the board has no such hart, the actor can't do the operation, the operation or the
--- reply can't have the word in its place, or the operation can't have the reply, or the word in it.
+-- reply can't have the word in its place, the operation can't have the reply, or the word in it, or the records tell no marks.
 abbrev pub IsMisfit : ℕ → Rule → Misfit → Type 0
-IsMisfit harts (Never p) misfit = IsMisfitOf harts p misfit
-IsMisfit harts (NeverAfter p q) misfit = IsMisfitOf harts p misfit ⊎ IsMisfitOf harts q misfit
-IsMisfit harts (OfSome p) misfit = IsMisfitOf harts p misfit
-IsMisfit harts (Each p) misfit = IsMisfitOf harts p misfit
-IsMisfit harts (End ends) misfit = ⊥
-IsMisfit harts (Before p q) misfit = IsMisfitOf harts p misfit ⊎ IsMisfitOf harts q misfit
-IsMisfit harts (CanEnd ends) misfit = ⊥
+IsMisfit harts rule misfit = IsMisfitBy false harts rule misfit
+
+-- The same of records that tell marks: the operation can't have the mark.
+abbrev pub IsMisfitWith : ℕ → Rule → Misfit → Type 0
+IsMisfitWith harts rule misfit = IsMisfitBy true harts rule misfit

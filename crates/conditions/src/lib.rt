@@ -9,10 +9,11 @@ mod rules;
 mod vacuity;
 
 pub use condition_script::{
-    Condition, Ending, Fault, Item, Keyword, Name, Pattern, Rule, Wrong, conditions, one_reading,
+    Condition, Ending, Fault, Item, Keyword, Mark, Name, Pattern, Rule, Wrong, conditions,
+    one_reading,
 };
 pub use endings::ending;
-pub use misfits::{Misfit, first_misfit};
+pub use misfits::{Misfit, first_misfit, first_misfit_with};
 pub use patterns::{fits_reply, fits_step, matches};
 pub use rules::{first_from, first_other_reply, holds, names_end};
 pub use vacuity::{NeedsMet, has_fitting, vacuous_conditions_say_nothing};

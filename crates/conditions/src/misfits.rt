@@ -2,15 +2,16 @@
 ghost use Rattle.std.specs.Prelude.{◌≡◌, ◌↔◌, ◌⊎◌, ◌<◌, ◌≤◌, ℕ, MatchOption, Some, true};
 ghost use Rattle.condition_script.specs.declared.items.Item.{Item as Value};
 ghost use Rattle.condition_script.specs.declared.items.Item.TheVariants.{Word};
+ghost use Rattle.condition_script.specs.declared.marks.Mark.{Mark as MarkValue};
 ghost use Rattle.script_lines.specs.declared.op_name.OpName.{OpName as OpValue};
 ghost use Rattle.script_lines.specs.declared.said_name.SaidName.{SaidName as SaidValue};
 ghost use Rattle.conditions.specs.declared.misfits.Misfit.{Misfit as MisfitValue};
 ghost use Rattle.condition_script.specs.declared.names.Name.TheVariants as names;
-ghost use Rattle.conditions.specs.Misfits.{CanAnswer, CanDo, IsActorMisfit, IsAnswerMisfit, IsClocks, IsDoerMisfit, IsMisfit, IsMisfitOf, IsOpMisfit, IsReplyMisfit, IsWordAt, IsWrongAnswer, IsWrongInReply, IsWrongWord, MeansOp, OpCanHave, ReplyCanHave, is_cause, is_cause_by, is_cause_of, is_moved_to, is_pending, is_reply_to, is_sign_extended, is_value_of};
+ghost use Rattle.conditions.specs.Misfits.{CanAnswer, CanDo, IsActorMisfit, IsAnswerMisfit, IsClocks, IsDoerMisfit, IsMarkMisfit, IsMarked, IsMisfit, IsMisfitBy, IsMisfitOf, IsMisfitWith, IsOpMisfit, IsReplyMisfit, IsWordAt, IsWrongAnswer, IsWrongInReply, IsWrongWord, MeansOp, OpCanHave, ReplyCanHave, is_access, is_cause, is_cause_by, is_cause_of, is_moved_to, is_pending, is_reply_to, is_sign_extended, is_value_of};
 ghost use Rattle.conditions.specs.Inside.Held.{HasAnswer, HasHeldAt, HasNoAnswer, HasRightAt, IsDoneBy, meant, no_reply};
 
 use amo::AmoName;
-use condition_script::{Item, Name, Pattern, Rule};
+use condition_script::{Item, Mark, Name, Pattern, Rule};
 use script_lines::{OpName, SaidName};
 use sv39::Kind;
 
@@ -30,51 +31,132 @@ pub enum Misfit {
     NoReply(OpName, SaidName),
     /// This operation can't have this value in this reply.
     NoAnswer(OpName, SaidName, Item),
+    /// The records tell no marks.
+    Untold(Mark),
+    /// This operation is no access, so it can't have this mark.
+    NoMark(OpName, Mark),
 }
 
-/// The first word of a condition's patterns that no step of a board with this many harts can have in its place.
+/// The first word of a condition's patterns that no step of a board with this many harts can have in its place. The records tell no
+/// marks.
 pub fn first_misfit(rule: &Rule, harts: u64) -> Option<Misfit>
     ensures { MatchOption result ((any : MisfitValue) → ¬ IsMisfit harts rule.now any) (IsMisfit harts rule.now) }
 {
+    misfit_by(rule, harts, false)
+}
+
+/// The same of records that tell the marks of their accesses.
+pub fn first_misfit_with(rule: &Rule, harts: u64) -> Option<Misfit>
+    ensures { MatchOption result ((any : MisfitValue) → ¬ IsMisfitWith harts rule.now any) (IsMisfitWith harts rule.now) }
+{
+    misfit_by(rule, harts, true)
+}
+
+/// The first such word, by whether the records tell marks.
+fn misfit_by(rule: &Rule, harts: u64, told: bool) -> Option<Misfit>
+    ensures { MatchOption result ((any : MisfitValue) → ¬ IsMisfitBy told harts rule.now any) (IsMisfitBy told harts rule.now) }
+{
     match rule {
-        Rule::Never(p) => in_pattern(p, harts),
-        Rule::NeverAfter(p, q) => in_patterns(p, q, harts),
-        Rule::OfSome(p) => in_pattern(p, harts),
-        Rule::Each(p) => in_pattern(p, harts),
-        Rule::Before(p, q) => in_patterns(p, q, harts),
+        Rule::Never(p) => in_pattern(p, harts, told),
+        Rule::NeverAfter(p, q) => in_patterns(p, q, harts, told),
+        Rule::OfSome(p) => in_pattern(p, harts, told),
+        Rule::Each(p) => in_pattern(p, harts, told),
+        Rule::Before(p, q) => in_patterns(p, q, harts, told),
         Rule::End(_) | Rule::CanEnd(_) => None,
     }
 }
 
 /// The first such word of two patterns.
-fn in_patterns(p: &Pattern, q: &Pattern, harts: u64) -> Option<Misfit>
-    ensures { MatchOption result ((any : MisfitValue) → ¬ (IsMisfitOf harts p.now any ⊎ IsMisfitOf harts q.now any))
-        (λ misfit. IsMisfitOf harts p.now misfit ⊎ IsMisfitOf harts q.now misfit) }
+fn in_patterns(p: &Pattern, q: &Pattern, harts: u64, told: bool) -> Option<Misfit>
+    ensures { MatchOption result ((any : MisfitValue) → ¬ (IsMisfitOf told harts p.now any ⊎ IsMisfitOf told harts q.now any))
+        (λ misfit. IsMisfitOf told harts p.now misfit ⊎ IsMisfitOf told harts q.now misfit) }
 {
-    match in_pattern(p, harts) {
+    match in_pattern(p, harts, told) {
         Some(misfit) => Some(misfit),
-        None => in_pattern(q, harts),
+        None => in_pattern(q, harts, told),
     }
 }
 
 /// The first such word of a pattern, or of its operation and reply together.
-fn in_pattern(p: &Pattern, harts: u64) -> Option<Misfit>
-    ensures { MatchOption result ((any : MisfitValue) → ¬ IsMisfitOf harts p.now any) (IsMisfitOf harts p.now) }
+fn in_pattern(p: &Pattern, harts: u64, told: bool) -> Option<Misfit>
+    ensures { MatchOption result ((any : MisfitValue) → ¬ IsMisfitOf told harts p.now any) (IsMisfitOf told harts p.now) }
 {
     match in_step(p, harts) {
         Some(misfit) => Some(misfit),
-        None => in_answer(p, harts),
+        None => in_answer(p, harts, told),
     }
 }
 
 /// The pattern's reply, if its operation can't have it; or the first such word of the reply.
-fn in_answer(p: &Pattern, harts: u64) -> Option<Misfit>
-    ensures { MatchOption result ((any : MisfitValue) → ¬ (IsAnswerMisfit p.now any ⊎ IsReplyMisfit harts p.now any))
-        (λ misfit. IsAnswerMisfit p.now misfit ⊎ IsReplyMisfit harts p.now misfit) }
+fn in_answer(p: &Pattern, harts: u64, told: bool) -> Option<Misfit>
+    ensures { MatchOption result
+        ((any : MisfitValue) → ¬ (IsAnswerMisfit p.now any ⊎ (IsMarkMisfit told p.now any ⊎ IsReplyMisfit harts p.now any)))
+        (λ misfit. IsAnswerMisfit p.now misfit ⊎ (IsMarkMisfit told p.now misfit ⊎ IsReplyMisfit harts p.now misfit)) }
 {
     match in_kind(p) {
         Some(misfit) => Some(misfit),
+        None => in_said(p, harts, told),
+    }
+}
+
+/// The mark in the reply's place, if no step can have it; or the first such word of the reply.
+fn in_said(p: &Pattern, harts: u64, told: bool) -> Option<Misfit>
+    ensures { MatchOption result ((any : MisfitValue) → ¬ (IsMarkMisfit told p.now any ⊎ IsReplyMisfit harts p.now any))
+        (λ misfit. IsMarkMisfit told p.now misfit ⊎ IsReplyMisfit harts p.now misfit) }
+{
+    match in_mark(p, told) {
+        Some(misfit) => Some(misfit),
         None => in_reply(p, harts),
+    }
+}
+
+/// The mark in the reply's place, if no step can have it.
+fn in_mark(p: &Pattern, told: bool) -> Option<Misfit>
+    ensures { MatchOption result ((any : MisfitValue) → ¬ IsMarkMisfit told p.now any) (IsMarkMisfit told p.now) }
+{
+    match mark_of(p) {
+        Some(mark) => mark_misfit(p, mark, told),
+        None => None,
+    }
+}
+
+/// The mark, if no step can have it: without marks none, otherwise none that is no access.
+fn mark_misfit(p: &Pattern, mark: Mark, told: bool) -> Option<Misfit>
+    requires { IsMarked p.now mark }
+    ensures { MatchOption result ((any : MisfitValue) → ¬ IsMarkMisfit told p.now any) (IsMarkMisfit told p.now) }
+{
+    if !told {
+        return Some(Misfit::Untold(mark));
+    }
+    match op_meant(p) {
+        Some(op) => {
+            if is_access(op) {
+                None
+            } else {
+                Some(Misfit::NoMark(op, mark))
+            }
+        }
+        None => None,
+    }
+}
+
+/// The mark in the place of a pattern's reply.
+fn mark_of(p: &Pattern) -> Option<Mark>
+    ensures { (mark : MarkValue) → (result ≡ Some mark) ↔ IsMarked p.now mark }
+{
+    match p.reply.first() {
+        Some(Some(Item::Word(Name::Mark(mark)))) => Some(*mark),
+        _ => None,
+    }
+}
+
+/// Whether an operation of this name is an access.
+fn is_access(op: OpName) -> bool
+    ensures { result ≡ is_access op }
+{
+    match op {
+        OpName::Load | OpName::Store | OpName::Fetch | OpName::Amo(_) => true,
+        _ => false,
     }
 }
 
@@ -226,7 +308,8 @@ fn can_do(actor: Item, op: OpName) -> bool
     match actor {
         Item::Word(Name::Clock) => op == OpName::Tick,
         Item::Number(_) => op != OpName::Tick,
-        Item::Word(Name::Op(_) | Name::Said(_)) | Item::Below(_) | Item::Absent => false,
+        Item::Word(Name::Op(_) | Name::Said(_) | Name::Mark(_)) | Item::Below(_) | Item::Absent =>
+            false,
     }
 }
 

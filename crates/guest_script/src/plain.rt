@@ -94,7 +94,8 @@ fn plain_line<'a>(
     ensures shorter { IfSome result (λ found. length found.1.now < length bytes.now) }
 {
     let (actor, rest) = plain_actor(bytes)?;
-    let (op, rest) = plain_op(rest, numbers)?;
+    let named = after(rest, b" ")?;
+    let (op, rest) = plain_by_letters(named, numbers)?;
     if in_trace {
         let replies = after(rest, b" ->")?;
         let (said, end) = plain_said(replies)?;
@@ -217,24 +218,8 @@ fn plain_actor(bytes: &[u8]) -> Option<(Actor, &[u8])>
     }
 }
 
-/// A blank, an operation's name, and its numbers, which have no limits of their own; a fence has those that are there.
-#[inline(always)]
-fn plain_op<'a>(
-    bytes: &'a [u8],
-    numbers: &mut ArrayVec<u64, MOST_ARGUMENTS>,
-) -> Option<(OpShape, &'a [u8])>
-    requires { numbers.old.items ≡ [] }
-    ensures op { IfSome result (λ found. BeginsOp bytes.now (op_made found.0 numbers.new.items) found.1.now) }
-    ensures shorter { IfSome result (λ found. length found.1.now ≤ length bytes.now) }
-{
-    match bytes {
-        [b' ', named @ ..] => plain_by_letters(named, numbers),
-        _ => None,
-    }
-}
-
-/// An operation's name and its numbers. The one name that may stand there is told by its letters; a wrong guess costs no more
-/// than its time.
+/// An operation's name and its numbers, which have no limits of their own; a fence has those that are there. The one name that
+/// may stand there is told by its letters; a wrong guess costs no more than its time.
 #[inline(always)]
 fn plain_by_letters<'a>(
     bytes: &'a [u8],
@@ -374,10 +359,10 @@ fn plain_places<'a>(
     if places.limit != u64::MAX {
         return None;
     }
-    let rest = if places.most == 0 {
-        bytes
-    } else {
-        plain_numbers(bytes, places.most, numbers)
+    let rest = match places.most {
+        0 => bytes,
+        1 => plain_one(bytes, numbers),
+        most => plain_numbers(bytes, most, numbers),
     };
     if numbers.len() < places.least {
         return None;
@@ -392,6 +377,24 @@ fn after<'a>(bytes: &'a [u8], front: &[u8]) -> Option<&'a [u8]>
     ensures shorter { IfSome result (λ rest. length rest.now + length front.now ≡ length bytes.now) }
 {
     bytes.strip_prefix(front)
+}
+
+/// Reads the next number, behind a blank, if there is one.
+#[inline(never)]
+#[tactic(auto, using(crate::proofs::PlainParts::no_numbers))]
+fn plain_one<'a>(bytes: &'a [u8], found: &mut ArrayVec<u64, MOST_ARGUMENTS>) -> &'a [u8]
+    requires { found.old.items ≡ [] }
+    ensures numbers { BeginsNumbers bytes.now found.new.items result.now }
+    ensures most { length found.new.items ≤ 1 }
+    ensures shorter { length result.now ≤ length bytes.now }
+{
+    match plain_number(bytes) {
+        Some((n, rest)) => {
+            found.push(n);
+            rest
+        }
+        None => bytes,
+    }
 }
 
 /// Reads the next numbers, each behind a blank, at most this many.

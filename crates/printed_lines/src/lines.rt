@@ -97,13 +97,13 @@ pub fn cut_onto(line: &mut LineText, answer: Result<Reply, Refusal>)
 
 /// Appends the line of a step, with its answer.
 #[inline(always)]
-pub fn step_onto(line: &mut LineText, actor: Actor, op: Op, answer: Result<Reply, Refusal>)
+pub fn step_onto(line: &mut LineText, actor: Actor, op: &Op, answer: Result<Reply, Refusal>)
     requires { length line.old + line_room ≤ page_room }
-    ensures text { line.new ≡ line.old ++ as_line (event_words actor op answer) }
+    ensures text { line.new ≡ line.old ++ as_line (event_words actor op.now answer) }
     ensures len { length line.new ≤ length line.old + line_room }
 {
     actor_onto(line, actor);
-    op_onto(line, &op);
+    op_onto(line, op);
     line.word(b"->");
     reply_onto(line, answer);
     line.text(b"\n");

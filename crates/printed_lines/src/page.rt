@@ -50,13 +50,13 @@ impl Page {
     pub fn print_step<W: Sink>(
         &mut self,
         actor: Actor,
-        op: Op,
+        op: &Op,
         answer: Result<Reply, Refusal>,
         sink: &mut W,
     ) -> Result<(), Failed>
         requires { W.failures sink.old < 2 ^ 63 }
         ensures { Passes W.written W.failures sink.old sink.new result self.old self.new
-            (as_line (event_words actor op answer)) }
+            (as_line (event_words actor op.now answer)) }
     {
         step_onto(&mut self.text, actor, op, answer);
         put_full(&mut self.text, sink)
@@ -78,7 +78,7 @@ impl Page {
             (as_line (line_words doing answer)) }
     {
         match doing {
-            Doing::Step { actor, op } => self.print_step(actor, op, answer, sink),
+            Doing::Step { actor, op } => self.print_step(actor, &op, answer, sink),
             Doing::Cut => self.print_cut(answer, sink),
         }
     }

@@ -90,7 +90,7 @@ impl<K: Sink> Lines<K> {
     {
         self.next = self.next.wrapping_add(1);
         self.page
-            .print_step(step.actor, step.op, Ok(step.reply), &mut self.sink)
+            .print_step(step.actor, &step.op, Ok(step.reply), &mut self.sink)
     }
 }
 

@@ -166,7 +166,7 @@ fn print_made<W: Sink>(
     let answer = board.step(actor, op);
     op_fits(op);
     answer_fits(answer);
-    page.print_step(actor, op, answer, writer)?;
+    page.print_step(actor, &op, answer, writer)?;
     Ok(Replayed::ToTheEnd {
         met_full: is_history_full(&answer),
     })

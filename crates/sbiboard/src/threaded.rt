@@ -206,7 +206,7 @@ fn print_events<W: Sink>(events: &[Event], writer: &mut W) -> Result<(), Failed>
         let answer = Ok(event.reply());
         op_fits(op);
         answer_fits(answer);
-        page.print_step(actor, op, answer, writer)?;
+        page.print_step(actor, &op, answer, writer)?;
     }
     page.put(writer)
 }

@@ -18,6 +18,8 @@ pub enum Unjudged {
     NotAllOrders,
     /// There are more states than the limit, and none of those that were seen breaks it.
     TooMany(u64),
+    /// It asks of marks, and the record has more events than a board's history.
+    NoMarks,
 }
 
 impl fmt::Display for Unjudged {
@@ -30,6 +32,7 @@ impl fmt::Display for Unjudged {
                 let most = Grouped(u128::from(*most));
                 write!(f, "more than {most} states, none of those seen breaks it")
             }
+            Unjudged::NoMarks => write!(f, "more than 1,000,000 events"),
         }
     }
 }
@@ -203,6 +206,7 @@ fn write_misfit<W: fmt::Write>(f: &mut fmt::Formatter<W>, misfit: Misfit) -> fmt
                 Name::Clock => b"c".as_slice(),
                 Name::Op(op) => op.word(),
                 Name::Said(said) => said.word(),
+                Name::Mark(mark) => mark.word(),
             };
             write!(f, ": no {} has ", str::from_utf8(word).unwrap_or(""))?;
             write_item(f, item)
@@ -226,6 +230,15 @@ fn write_misfit<W: fmt::Write>(f: &mut fmt::Formatter<W>, misfit: Misfit) -> fmt
             let said = str::from_utf8(said.word()).unwrap_or("");
             write!(f, ": no {op}'s {said} has ")?;
             write_item(f, item)
+        }
+        Misfit::Untold(mark) => {
+            let mark = str::from_utf8(mark.word()).unwrap_or("");
+            write!(f, ": only schedules and traces tell what is {mark}")
+        }
+        Misfit::NoMark(op, mark) => {
+            let op = str::from_utf8(op.word()).unwrap_or("");
+            let mark = str::from_utf8(mark.word()).unwrap_or("");
+            write!(f, ": no {op} is {mark}")
         }
     }
 }

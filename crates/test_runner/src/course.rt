@@ -1,6 +1,8 @@
 //! A board that does the lines of a schedule or a trace.
+ghost use Rattle.board_terms.specs.Limits.{IsGood};
+
 use crate::stale::Expected;
-use board_core::{Board, Event, Refusal, Reply};
+use board_core::{Board, Config, Event, Refusal, Reply};
 use guest_script::{Doing, KeptLine};
 use std::alloc::{AllocError, Global};
 use test_report::{Note, RecordParts};
@@ -48,6 +50,13 @@ impl Course {
             self.noted.push(Note::Stale(line.number(), stale))?;
         }
         Ok(answer)
+    }
+
+    /// The board's numbers.
+    pub(crate) fn config(&self) -> &Config
+        ensures { IsGood result.now }
+    {
+        self.board.config()
     }
 
     /// All events, also those before cuts, oldest first.

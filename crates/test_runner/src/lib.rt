@@ -3,6 +3,7 @@
 
 mod course;
 mod loading;
+mod marked;
 mod output;
 mod record_names;
 mod reporting;

@@ -1,10 +1,11 @@
 //! Replays schedules, and compares traces.
 use crate::course::Course;
-use conditions::{Condition, Rule, first_misfit};
+use crate::marked::{failing_place, is_met_by, judged, marks_asked};
+use access_marks::Marks;
+use conditions::{Condition, Rule};
 use diagnostics::Walk;
 use guest_programs::new_board;
 use guest_script::{Body, Lines};
-use outcome_statistics::{failing_step, is_met, meets};
 use std::alloc::AllocError;
 use std::rt::Files;
 use std::str;
@@ -24,8 +25,9 @@ pub(crate) fn test_steps<R: AllocGlobal + Files>(trial: &Trial<'_, R>) -> Result
         Body::Empty | Body::Program { .. } => {}
     }
     let events = course.events(alloc)?;
+    let marks = marks_asked(alloc, trial.case.conditions, course.config(), &events)?;
     for condition in trial.case.conditions {
-        judge(trial, condition, course.record(&events), &mut file)?;
+        judge(trial, condition, course.record(&events), &marks, &mut file)?;
     }
     Ok(file)
 }
@@ -108,15 +110,14 @@ fn judge<R: AllocGlobal + Files>(
     trial: &Trial<'_, R>,
     condition: &Condition,
     record: RecordParts<'_>,
+    marks: &Option<Vec<Marks>>,
     file: &mut FileReport,
 ) -> Result<(), AllocError> {
     let alloc = trial.rt.alloc();
     let rule = &condition.rule;
-    let verdict = match first_misfit(rule, trial.script.config.harts) {
-        Some(misfit) => Verdict::Misfit(misfit),
-        None => Verdict::of(meets(rule, record.events, None)),
-    };
+    let verdict = judged(rule, trial.script.config.harts, record.events, marks);
     let is_failing = matches!(verdict, Verdict::Fails);
+    let is_misfit = matches!(verdict, Verdict::Misfit(_));
     let name = named(alloc, &trial.case, Some(condition), "")?;
     let mut point = Point::new(alloc, name, verdict);
     if matches!(rule, Rule::End(_) | Rule::CanEnd(_)) {
@@ -124,11 +125,11 @@ fn judge<R: AllocGlobal + Files>(
             .details
             .push(Detail::Reason("only a program has an end"))?;
     } else if is_failing {
-        let place = failing_step(Some(rule), record.events);
+        let place = failing_place(rule, record.events, marks);
         keep(trial, "failed", record, place, &mut point.details)?;
     }
     file.push(point)?;
-    if first_misfit(rule, trial.script.config.harts).is_none() && !is_met(rule, record.events) {
+    if !is_misfit && !is_met_by(rule, record.events) {
         file.note(Note::NeverMet(condition.line))?;
     }
     Ok(())

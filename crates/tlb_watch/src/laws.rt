@@ -7,6 +7,7 @@ ghost use Rattle.board_core.specs.Memory.{memory, satp};
 ghost use Rattle.board_core.specs.Opening.{Opening, opening_at};
 ghost use Rattle.any_tlb.specs.declared.watcher.Walking.TheVariants.{Had};
 ghost use Rattle.any_tlb.specs.Effects.{effect_at};
+ghost use Rattle.any_tlb.specs.Quiet.{HasNoEffect};
 ghost use Rattle.tlb_watch.specs.declared.effect.CacheEffect.{CacheEffect};
 ghost use Rattle.tlb_watch.specs.declared.hart_address.HartAddress.{HartAddress};
 ghost use Rattle.tlb_watch.specs.Effects.{effect_on};
@@ -41,4 +42,13 @@ pub fn trackers_follow_histories()
         → IsTracking o past addresses before
         → AllZip (Follows effect (memory o (event ∷ past)) satps) before after
         → IsTracking o (event ∷ past) addresses after }
+{}
+
+/// So has a tracker that doesn't follow an event, if the event does nothing to caches and changes neither the memory nor a satp. A
+/// law: there is nothing to run.
+pub fn trackers_outlast_quiet_events()
+    ensures { (o : Opening) (event : Event) (past : List Event) (addresses : List HartAddress) (watches : List WatchedAddress)
+        → ((h : ℕ) → HasNoEffect o event past h)
+        → IsTracking o past addresses watches
+        → IsTracking o (event ∷ past) addresses watches }
 {}

@@ -13,7 +13,10 @@ mod tracker;
 pub use address::AddressWatch;
 pub use effect::CacheEffect;
 pub use hart_address::HartAddress;
-pub use laws::{first_watches_are_watches, trackers_follow_histories, watches_follow_histories};
+pub use laws::{
+    first_watches_are_watches, trackers_follow_histories, trackers_outlast_quiet_events,
+    watches_follow_histories,
+};
 pub use ready::Ready;
 pub use stale::is_stale;
 pub use tracker::Tracker;

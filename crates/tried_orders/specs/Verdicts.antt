@@ -28,7 +28,7 @@ use Rattle.test_report.specs.declared.report.FileReport.{FileReport}
 use Rattle.test_report.specs.declared.verdict.Extent.{Extent}
 use Rattle.test_report.specs.declared.verdict.Extent.TheVariants as spans
 use Rattle.test_report.specs.declared.verdict.Unjudged.{Unjudged}
-use Rattle.test_report.specs.declared.verdict.Unjudged.TheVariants.{NoTime, NoOrder, NotAllOrders, TooMany}
+use Rattle.test_report.specs.declared.verdict.Unjudged.TheVariants.{NoTime, NoOrder, NotAllOrders, TooMany, NoMarks}
 use Rattle.test_report.specs.declared.verdict.Verdict.{Verdict}
 use Rattle.test_report.specs.declared.verdict.Verdict.TheVariants.{Holds, Fails, Vacuous, NoEnd, Misfit, NotJudged}
 use Rattle.test_terms.specs.declared.options.Options.{Options}
@@ -107,6 +107,7 @@ IsUnjudgedBy is_cut asked tried NoTime = (tried ≡ []) × (is_cut ≡ true)
 IsUnjudgedBy is_cut asked tried NoOrder = tried ≡ []
 IsUnjudgedBy is_cut asked tried NotAllOrders = IsOfAll asked
 IsUnjudgedBy is_cut asked tried (TooMany states) = ⊥
+IsUnjudgedBy is_cut asked tried NoMarks = ⊥
 
 -- The condition has no misfit on a board with so many harts.
 abbrev pub HasNoMisfit : (harts : ℕ) → Option Condition → Type 0

@@ -5,7 +5,8 @@ endif
 
 let s:operations = 'ecall load fetch store store1 store2 store4 amoswap amoadd amoand amoor amoxor amomin amomax amominu amomaxu amoswap.w amoadd.w amoand.w amoor.w amoxor.w amomin.w amomax.w amominu.w amomaxu.w amocas satp sfence fencei sie sstatus sip clearssip wfi poll serve advance tick'
 let s:replies = 'ret entry waiting gone value fault served moved done refused'
-let s:rules = 'never some each before can end'
+let s:rules = 'never some each before can end steady'
+let s:marks = 'stale unsteady'
 let s:ends = 'off history-full quiet stuck'
 
 " Any of these words, whole. A comment may begin behind one, and in a condition a comma.
@@ -34,11 +35,12 @@ syntax match sbiboardComment "#.*" contains=@Spell
 
 " Conditions.
 syntax region sbiboardCondition matchgroup=sbiboardSign start="^\s*\zs#!/\@!" end="\ze#" end="$" oneline keepend
-      \ contains=sbiboardError,sbiboardRule,sbiboardAfter,sbiboardEnd,sbiboardAny,sbiboardComma,sbiboardArrow,sbiboardPatternNumber,sbiboardPatternOperation,sbiboardPatternReply,sbiboardClock,sbiboardDash
+      \ contains=sbiboardError,sbiboardRule,sbiboardAfter,sbiboardEnd,sbiboardAny,sbiboardComma,sbiboardArrow,sbiboardPatternNumber,sbiboardPatternOperation,sbiboardPatternReply,sbiboardMark,sbiboardClock,sbiboardDash
 execute 'syntax match sbiboardRule ' . s:Words(s:rules, '') . ' contained'
 execute 'syntax match sbiboardEnd ' . s:Words(s:ends, '') . ' contained'
 execute 'syntax match sbiboardPatternOperation ' . s:Words(s:operations . ' cut', ',') . ' contained'
 execute 'syntax match sbiboardPatternReply ' . s:Words(s:replies, ',') . ' contained'
+execute 'syntax match sbiboardMark ' . s:Words(s:marks, ',') . ' contained'
 execute 'syntax match sbiboardPatternNumber "\%(^\|[[:blank:],]\)\@1<=' . s:number . '\ze\%([[:blank:]#,]\|$\)" contained'
 syntax match sbiboardAfter "[[:blank:]!]\@1<=\%(after\|maybe\)\ze\%([[:blank:]#]\|$\)" contained
 syntax match sbiboardClock "[[:blank:],]\@1<=c\ze\%([[:blank:]#,]\|$\)" contained
@@ -67,6 +69,7 @@ highlight default link sbiboardSign PreProc
 highlight default link sbiboardRule Keyword
 highlight default link sbiboardAfter Keyword
 highlight default link sbiboardEnd Constant
+highlight default link sbiboardMark Type
 highlight default link sbiboardAny Special
 
 let b:current_syntax = 'sbiboard'

@@ -17,3 +17,6 @@ returns-in-Before c = rw c.in-Before.is c.ordered.ensures
 
 pub returns-in-Can : goal.returns-in-Can
 returns-in-Can c = rw c.in-Can.is c.can_end.ensures
+
+pub returns-in-Steady : goal.returns-in-Steady
+returns-in-Steady c = rw c.in-Steady.is c.steady.ensures

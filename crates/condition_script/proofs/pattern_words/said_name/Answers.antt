@@ -1,6 +1,5 @@
-use Rattle.condition_script.proofs.Named.{none_named, said_own}
-use Rattle.script_lines.specs.Names.{said_named, said_word}
+use Rattle.condition_script.proofs.Asked.{none_said}
 use Rattle.condition_script.proofs.pattern_words.said_name.Goals as goal
 
 pub returns-in-None : goal.returns-in-None
-returns-in-None c = λ item most is. none_named said_named said_word said_own c.args.word.now is.0 c.in-None.ensures is.2
+returns-in-None c = none_said c.args.word.now c.reply_name.result c.in_default.is c.reply_name.ensures c.in-None.ensures

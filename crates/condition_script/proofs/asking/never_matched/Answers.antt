@@ -1,7 +1,7 @@
 use Rattle.std.proofs.lemmas.Result.{err_from_is_err_and}
 use Rattle.condition_script.proofs.Asked.{either, no_never}
 use Rattle.condition_script.specs.Inside.Reading.{texts}
-use Rattle.condition_script.proofs.asking.never.Goals as goal
+use Rattle.condition_script.proofs.asking.never_matched.Goals as goal
 
 pub returns-in_err-p-in-Some : goal.returns-in_err-p-in-Some
 returns-in_err-p-in-Some c =

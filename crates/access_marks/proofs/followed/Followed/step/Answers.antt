@@ -1,0 +1,65 @@
+use Rattle.std.proofs.Common.{◌≡◌, ℕ, ◌<◌, ◌∷◌, List, refl, sym, ap, subst, ◌∙◌}
+use Rattle.std.specs.List.{All}
+use Rattle.board_core.specs.Course.{Course}
+use Rattle.board_core.specs.History.{Event}
+use Rattle.any_tlb.specs.Effects.{effect_at}
+use Rattle.tlb_watch.specs.declared.hart_address.HartAddress.{HartAddress}
+use Rattle.tlb_watch.specs.Effects.{effect_on}
+use Rattle.tlb_watch.specs.Tracked.{IsTracking, addresses_of}
+use Rattle.tlb_watch.specs.Watched.{WatchedAddress}
+use Rattle.access_marks.specs.Inside.Accessed.{IsPresent}
+use Rattle.access_marks.specs.Inside.Changes.{SaysWritten}
+use Rattle.access_marks.specs.Inside.Following.{Following, IsNext}
+use Rattle.access_marks.specs.Inside.Words.{AreNoted}
+use Rattle.access_marks.proofs.Following.{all-there, of-own}
+use Rattle.access_marks.proofs.followed.Followed.step.Goals as goal
+
+pub effect_of-effect-requires : goal.effect_of-effect-requires
+effect_of-effect-requires c = subst (λ (f : Following). IsPresent f.course.opening.config.harts c.args.event.now.actor) (sym c.self.view_is) c.requires
+
+pub track-requires : goal.track-requires
+track-requires c =
+    let b = c.self.inside.board in
+    let grew = c.takes.ensures.after c.if-not-takes.false in
+    subst (λ (b : Course). All (λ (w : WatchedAddress). w.at.hart < b.opening.config.harts) c.self.inside.tracker) (sym grew)
+    (all-there b.opening.config.harts c.self.inside.tracker c.self.invariant.0.present)
+
+pub invariant_of-result : goal.invariant_of-result
+invariant_of-result c =
+    let b = c.self.inside.board in
+    let event = c.args.event.now in
+    let tracker = c.self.inside.tracker in
+    let after = c.in_ok-tracker.tracker in
+    let grew = c.takes.ensures.after c.if-not-takes.false in
+    let tracks = subst (λ (b : Course). (event : Event) (past : List Event) (addresses : List HartAddress) → b.past ≡ event ∷ past → event.op ≡ c.op.result
+    → ((h : ℕ) → effect_on c.effect_of-effect.result h ≡ effect_at b.opening past event h) → IsTracking b.opening past addresses tracker → IsTracking b.opening (event ∷ past) addresses after)
+    grew c.in_ok-tracker.ensures event b.past (addresses_of tracker) refl (sym c.op.ensures) c.effect_of-effect.ensures c.self.invariant.0 in
+    let notes = subst (λ (b : Course). (event : Event) (past : List Event) → b.past ≡ event ∷ past → SaysWritten b.opening past event c.written_by-word.result
+    → ((h : ℕ) → effect_on c.effect_of-effect.result h ≡ effect_at b.opening past event h) → AreNoted b.opening past c.self.inside.notes.items → AreNoted b.opening (event ∷ past) c.note.new.notes.items)
+    grew c.in_ok-note.ensures event b.past refl
+    (subst (λ (b : Course). SaysWritten b.opening b.past event c.written_by-word.result) c.view.ensures c.written_by-word.ensures) c.effect_of-effect.ensures c.self.invariant.1 in (
+      subst (λ (b : Course). IsTracking b.opening b.past (addresses_of after) after) (sym grew) (of-own b.opening (event ∷ b.past) (addresses_of tracker) after tracks),
+      subst (λ (b : Course). AreNoted b.opening b.past c.note.new.notes.items) (sym grew) notes,
+    )
+
+pub returns-then-not-takes : goal.returns-then-not-takes
+returns-then-not-takes c = λ next.
+    let yes = c.takes.ensures.is.1 (subst (λ (f : Following). IsNext f.course.opening f.course.past c.args.event.now) (sym c.self.view_is) next) in
+    let no = c.if-not-takes.true in
+    absurd (cc)
+
+pub returns : goal.returns
+returns c =
+    let b = c.self.inside.board in
+    let event = c.args.event.now in
+    let tracker = c.self.inside.tracker in
+    let after = c.in_ok-tracker.tracker in
+    let grew = c.takes.ensures.after c.if-not-takes.false in
+    let tracks = subst (λ (b : Course). (event : Event) (past : List Event) (addresses : List HartAddress) → b.past ≡ event ∷ past → event.op ≡ c.op.result
+    → ((h : ℕ) → effect_on c.effect_of-effect.result h ≡ effect_at b.opening past event h) → IsTracking b.opening past addresses tracker → IsTracking b.opening (event ∷ past) addresses after)
+    grew c.in_ok-tracker.ensures event b.past (addresses_of tracker) refl (sym c.op.ensures) c.effect_of-effect.ensures c.self.invariant.0 in
+    let course = grew ∙ ap (λ (f : Following). record { opening = f.course.opening; past = event ∷ f.course.past }) c.self.view_is in
+    let addresses = tracks.are ∙ ap (λ (f : Following). f.addresses) c.self.view_is in (
+      subst (λ (f : Following). IsNext f.course.opening f.course.past event) c.self.view_is (c.takes.ensures.is.0 c.if-not-takes.false),
+      (λ i. record { course = course i; addresses = addresses i }),
+    )

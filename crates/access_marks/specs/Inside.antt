@@ -1,0 +1,6 @@
+-- Private: what no clause of a public call names.
+pub mod Accessed
+pub mod Changes
+pub mod Following
+pub mod Quiet
+pub mod Words

@@ -1,0 +1,32 @@
+-- What the places of a history say of their accesses, beside the replies (Privileged 4.2.1, 4.3.2; Zifencei).
+use Rattle.std.specs.Prelude.{◌≡◌, ◌↔◌, ℕ, true, false, List, [], ◌∷◌, Option, Some, None}
+use Rattle.board_terms.specs.declared.op.Actor.{Actor}
+use Rattle.board_terms.specs.declared.op.Actor.TheVariants.{Hart, Clock}
+use Rattle.board_core.specs.History.{Event, Reach, access_of}
+use Rattle.board_core.specs.Opening.{Opening}
+use Rattle.any_tlb.specs.Stale.{IsStale}
+use Rattle.any_tlb.specs.Steady.{IsSteadyReach}
+use Rattle.access_marks.specs.declared.marks.Marks.{Marks}
+
+-- no mark
+abbrev pub unmarked : Marks
+unmarked = record { stale = false; unsteady = false }
+
+-- The marks of an access by hart h, which the event is: whether it is stale, and whether it isn't steady.
+pub record IsMarkedAs (o : Opening) (past : List Event) (h : ℕ) (event : Event) (reach : Reach) (marks : Marks) : Type 0 where
+  pub stale : (marks.stale ≡ true) ↔ IsStale o past h event reach
+  pub steady : (marks.unsteady ≡ false) ↔ IsSteadyReach o past h reach
+
+-- The marks of an event after a history. An event that is no access of a hart has none.
+abbrev pub IsMarkedStep : Opening → List Event → Event → Actor → Option Reach → Marks → Type 0
+IsMarkedStep o past event (Hart h) (Some reach) marks = IsMarkedAs o past h event reach marks
+IsMarkedStep o past event (Hart h) None marks = marks ≡ unmarked
+IsMarkedStep o past event Clock reach marks = marks ≡ unmarked
+
+-- The marks of a history's events, newest first: each event has those of its own place.
+abbrev pub AreMarked : Opening → List Event → List Marks → Type 0
+AreMarked o [] [] = Unit {0}
+AreMarked o [] (m ∷ marks) = ⊥
+AreMarked o (event ∷ past) [] = ⊥
+AreMarked o (event ∷ past) (m ∷ marks) =
+    IsMarkedStep o past event event.actor (access_of event.op) m × AreMarked o past marks

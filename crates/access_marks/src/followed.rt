@@ -1,0 +1,277 @@
+//! A board that takes the events of a record, and what any caches may hold after each.
+ghost use Rattle.std.specs.Prelude.{◌≡◌, ◌<◌, ◌↔◌, [], ◌∷◌, ℕ, IfOk, List, MatchOption, true};
+ghost use Rattle.std.specs.List.{All, Contains};
+ghost use Rattle.hart_access.specs.Accesses.{place};
+ghost use Rattle.board_terms.specs.Limits.{IsGood};
+ghost use Rattle.board_core.specs.History.{Event as Step, access_of};
+ghost use Rattle.board_core.specs.Memory.{memory, satp};
+ghost use Rattle.board_core.specs.Opening.{Opening, opening_at};
+ghost use Rattle.board_core.specs.Replies.{IsLegal};
+ghost use Rattle.board_laws.specs.Steady.{no_tlb};
+ghost use Rattle.any_tlb.specs.Effects.{effect_at};
+ghost use Rattle.any_tlb.specs.Steady.{IsSteady, IsSteadyFetch, IsSteadyReach};
+ghost use Rattle.tlb_watch.specs.declared.hart_address.HartAddress.{HartAddress as Place};
+ghost use Rattle.tlb_watch.specs.Effects.{effect_on};
+ghost use Rattle.tlb_watch.specs.Tracked.{IsTracking};
+ghost use Rattle.tlb_watch.specs.Watched.{WatchedAddress};
+ghost use Rattle.access_marks.specs.Inside.Accessed.{IsPresent, IsWatched};
+ghost use Rattle.access_marks.specs.Inside.Changes.{SaysWritten};
+ghost use Rattle.access_marks.specs.Inside.Following.{IsNext};
+ghost use Rattle.access_marks.specs.Inside.Words.{AreNoted};
+ghost use Rattle.access_marks.specs.Marks.{IsMarkedAs, IsMarkedStep};
+
+use crate::changes::{Written, changed, written_by};
+use crate::effects::{effect_of, is_quiet, satps};
+use crate::marks::Marks;
+use crate::taking::takes;
+use crate::words::{WordNote, differs, note_change, note_effect};
+use any_tlb::watched_words_decide;
+use board_core::{Actor, Board, Cause, Config, Entry, Event, Kind, Op};
+use board_rules::access_of;
+use hart_access::{Access, Way};
+use std::alloc::{AllocError, Global};
+use std::marker::Model;
+use tlb_model::Tlb;
+use tlb_watch::{
+    CacheEffect, HartAddress, Tracker, first_watches_are_watches, is_stale,
+    trackers_follow_histories, trackers_outlast_quiet_events,
+};
+
+/// A board at a place of a record, and what its harts' caches may hold there for the addresses that the record accesses.
+#[derive(Drop)]
+pub(crate) struct Followed {
+    board: Board,
+    tracker: Tracker,
+    notes: Vec<WordNote>,
+}
+
+impl Model for Followed {
+    ghost use Rattle.tlb_watch.specs.Tracked.{IsTracking, addresses_of};
+    ghost use Rattle.access_marks.specs.Inside.Following.{Following};
+    ghost use Rattle.access_marks.specs.Inside.Words.{AreNoted};
+
+    ghost Value = { Following };
+
+    ghost view = { λ f. record { course = f.board; addresses = addresses_of f.tracker } };
+
+    ghost invariant = { λ f. IsTracking f.board.opening f.board.past (addresses_of f.tracker) f.tracker
+        × AreNoted f.board.opening f.board.past f.notes.items };
+}
+
+impl Followed {
+    /// A board with these numbers before its first event, and the addresses to watch.
+    ///
+    /// # Errors
+    ///
+    /// Out of memory.
+    pub(crate) fn new(
+        alloc: Global,
+        config: &Config,
+        addresses: &[HartAddress],
+    ) -> Result<Followed, AllocError>
+        requires good { IsGood config.now }
+        requires present { All (λ (at : Place). at.hart < config.now.harts) addresses.now }
+        ensures made { IfOk result (λ f. f ≡ record {
+          course = record { opening = opening_at config.now; past = [] };
+          addresses = addresses.now;
+        }) }
+        ensures legal { IfOk result (λ _. IsLegal (opening_at config.now) []) }
+    {
+        first_watches_are_watches();
+        let Ok(board) = Board::new(alloc, config) else {
+            return Err(AllocError);
+        };
+        let tracker = Tracker::first(alloc, addresses)?;
+        let _legal = board.history();
+        Ok(Followed {
+            board,
+            tracker,
+            notes: Vec::new(alloc),
+        })
+    }
+
+    /// The marks of the next event.
+    pub(crate) fn marks(&self, event: &Event) -> Marks
+        requires { IsWatched self.now.course.opening.config.harts self.now.addresses event.now }
+        ensures { IsMarkedStep self.now.course.opening self.now.course.past event.now event.now.actor
+            (access_of event.now.op) result }
+    {
+        match event.actor() {
+            Actor::Hart(hart) => match access_of(event.op()) {
+                Some((address, access)) => {
+                    self.access_marks(HartAddress { hart, address }, access, event.translation())
+                }
+                None => Marks::none(),
+            },
+            Actor::Clock => Marks::none(),
+        }
+    }
+
+    /// The marks of an access that uses this entry.
+    fn access_marks(&self, at: HartAddress, access: Access, used: Option<Entry>) -> Marks
+        requires present { at.hart < self.now.course.opening.config.harts }
+        requires watched { Contains self.now.addresses at }
+        ensures { (event : Step) → event.translation ≡ used
+            → IsMarkedAs self.now.course.opening self.now.course.past at.hart event
+            (record { va = at.address; access = access }) result }
+    {
+        Marks {
+            stale: is_stale(&self.board, at, access, used),
+            unsteady: !self.is_steady(at, access),
+        }
+    }
+
+    /// Whether an access is steady, with the word that it fetches.
+    fn is_steady(&self, at: HartAddress, access: Access) -> bool
+        requires present { at.hart < self.now.course.opening.config.harts }
+        requires watched { Contains self.now.addresses at }
+        ensures { (result ≡ true) ↔ IsSteadyReach self.now.course.opening self.now.course.past at.hart
+            (record { va = at.address; access = access }) }
+    {
+        self.is_translated_steadily(at, access.kind()) && self.is_fetched_steadily(at, access)
+    }
+
+    /// Whether the translation of an access of this kind is steady.
+    fn is_translated_steadily(&self, at: HartAddress, kind: Kind) -> bool
+        requires present { at.hart < self.now.course.opening.config.harts }
+        requires watched { Contains self.now.addresses at }
+        ensures { (result ≡ true)
+            ↔ IsSteady self.now.course.opening self.now.course.past at.hart at.address kind }
+    {
+        let view = self.board.view();
+        let register = view.satp_register(at.hart);
+        match self.tracker.is_steady(at, view.ram(), register, kind) {
+            Some(steady) => steady,
+            None => false,
+        }
+    }
+
+    /// Whether the word that an access fetches, if it is a fetch, is steady.
+    fn is_fetched_steadily(&self, at: HartAddress, access: Access) -> bool
+        requires { at.hart < self.now.course.opening.config.harts }
+        ensures { (result ≡ true) ↔ IsSteadyFetch self.now.course.opening self.now.course.past at.hart
+            (record { va = at.address; access = access }) }
+    {
+        match access {
+            Access::Fetch => self.is_word_steady(at),
+            _ => true,
+        }
+    }
+
+    /// Whether the word that a fetch reads by the page tables is steady, if it reads one.
+    fn is_word_steady(&self, at: HartAddress) -> bool
+        requires { at.hart < self.now.course.opening.config.harts }
+        ensures { (result ≡ true) ↔ IsSteadyFetch self.now.course.opening self.now.course.past at.hart
+            (record { va = at.address; access = Access.Fetch }) }
+    {
+        watched_words_decide();
+        match self.fetched(at) {
+            Ok(address) => {
+                let at = HartAddress {
+                    hart: at.hart,
+                    address,
+                };
+                !differs(&self.notes, at)
+            }
+            Err(_) => true,
+        }
+    }
+
+    /// The physical address of the word that a fetch reads by the page tables, or why it fails.
+    fn fetched(&self, at: HartAddress) -> Result<u64, Cause>
+        requires { at.hart < self.now.course.opening.config.harts }
+        ensures { result ≡ place (memory self.now.course.opening self.now.course.past)
+            (satp self.now.course.opening self.now.course.past at.hart) no_tlb at.address Access.Fetch }
+    {
+        let view = self.board.view();
+        let ram = view.ram();
+        let register = view.satp_register(at.hart);
+        let way = Way::of(ram, register, &Tlb::new(), at.address, Kind::Fetch);
+        way.place(ram, at.address, Kind::Fetch)
+    }
+
+    /// Takes the next event. None: the board makes another step of its actor and operation, or refuses it.
+    ///
+    /// # Errors
+    ///
+    /// Out of memory. The board is gone.
+    pub(crate) fn step(self, alloc: Global, event: &Event) -> Result<Option<Followed>, AllocError>
+        requires { IsPresent self.course.opening.config.harts event.now.actor }
+        ensures { IfOk result (λ found. MatchOption found
+            (¬ IsNext self.course.opening self.course.past event.now)
+            (λ f. IsNext self.course.opening self.course.past event.now × (f ≡ record {
+              course = record { opening = self.course.opening; past = event.now ∷ self.course.past };
+              addresses = self.addresses;
+            }))) }
+    {
+        let Followed {
+            mut board,
+            tracker,
+            mut notes,
+        } = self;
+        let effect = effect_of(&board, event);
+        let word = written_by(&board.view(), event);
+        if !takes(&mut board, event) {
+            return Ok(None);
+        }
+        note(&mut notes, &board, word, effect)?;
+        let tracker = track(alloc, tracker, &board, event.op(), effect)?;
+        Ok(Some(Followed {
+            board,
+            tracker,
+            notes,
+        }))
+    }
+}
+
+/// Notes what the board's last event did to words: this it wrote, and this it did to caches.
+///
+/// # Errors
+///
+/// Out of memory.
+fn note(
+    notes: &mut Vec<WordNote>,
+    board: &Board,
+    written: Option<Written>,
+    effect: CacheEffect,
+) -> Result<(), AllocError>
+    ensures { IfOk result (λ _. (event : Step) (past : List Step) → board.now.past ≡ event ∷ past
+        → SaysWritten board.now.opening past event written
+        → ((h : ℕ) → effect_on effect h ≡ effect_at board.now.opening past event h)
+        → AreNoted board.now.opening past notes.old.items
+        → AreNoted board.now.opening (event ∷ past) notes.new.items) }
+{
+    let _legal = board.history();
+    note_change(notes, changed(&board.view(), written))?;
+    note_effect(notes, effect)
+}
+
+/// Watches the addresses after the board's last event, which was of this operation, and did this to caches. Most events need no
+/// look.
+///
+/// # Errors
+///
+/// Out of memory.
+fn track(
+    alloc: Global,
+    tracker: Tracker,
+    board: &Board,
+    op: Op,
+    effect: CacheEffect,
+) -> Result<Tracker, AllocError>
+    requires { All (λ (w : WatchedAddress). w.at.hart < board.now.opening.config.harts) tracker }
+    ensures { IfOk result (λ after. (event : Step) (past : List Step) (addresses : List Place)
+        → board.now.past ≡ event ∷ past
+        → event.op ≡ op
+        → ((h : ℕ) → effect_on effect h ≡ effect_at board.now.opening past event h)
+        → IsTracking board.now.opening past addresses tracker
+        → IsTracking board.now.opening (event ∷ past) addresses after) }
+{
+    trackers_outlast_quiet_events();
+    trackers_follow_histories();
+    if is_quiet(op) {
+        return Ok(tracker);
+    }
+    let satps = satps(alloc, board)?;
+    tracker.happened(alloc, effect, board.view().ram(), &satps)
+}

@@ -1,0 +1,25 @@
+//! What a record says of an access beside its reply.
+ghost use Rattle.std.specs.Prelude.{◌≡◌};
+ghost use Rattle.access_marks.specs.Marks.{unmarked};
+
+/// What a record says of an access beside its reply (Privileged 4.2.1, 4.3.2; Zifencei).
+#[derive(Clone, Copy, Debug, PartialEq, Eq)]
+pub struct Marks {
+    /// The access is stale: the entry that it used gave it another physical address, or another fault, than the page tables.
+    pub stale: bool,
+    /// The access isn't steady: some TLB that the standard allows may give it another physical address or fault than the page
+    /// tables, or, if it is a fetch, some instruction cache another word than the memory.
+    pub unsteady: bool,
+}
+
+impl Marks {
+    /// The marks of an event that is no access.
+    pub(crate) fn none() -> Marks
+        ensures { result ≡ unmarked }
+    {
+        Marks {
+            stale: false,
+            unsteady: false,
+        }
+    }
+}

@@ -1,0 +1,36 @@
+//! What conditions say of an access beside its reply.
+ghost use Rattle.std.specs.Prelude.{◌≡◌, MatchOption, None};
+ghost use Rattle.condition_script.specs.Grammar.{mark_name, mark_named};
+
+/// What a condition says of an access beside its reply, by a word in the place of a reply.
+#[derive(Clone, Copy, Debug, PartialEq, Eq)]
+pub enum Mark {
+    /// `stale`: the entry that the access used gave it another physical address, or another fault, than the page tables.
+    Stale,
+    /// `unsteady`: what the access gets depends on what a TLB or an instruction cache holds.
+    Unsteady,
+}
+
+impl Mark {
+    /// The mark that a word names.
+    #[tactic(auto, unfolding(crate::specs::Grammar::mark_named))]
+    pub(crate) fn of(word: &[u8]) -> Option<Mark>
+        ensures { MatchOption result (mark_named word.now ≡ None) (λ mark. word.now ≡ mark_name mark) }
+    {
+        match word {
+            b"stale" => Some(Mark::Stale),
+            b"unsteady" => Some(Mark::Unsteady),
+            _ => None,
+        }
+    }
+
+    /// The word that names the mark.
+    pub fn word(self) -> &'static [u8]
+        ensures { result.now ≡ mark_name self }
+    {
+        match self {
+            Mark::Stale => b"stale",
+            Mark::Unsteady => b"unsteady",
+        }
+    }
+}

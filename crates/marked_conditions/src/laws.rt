@@ -1,0 +1,15 @@
+//! Conditions without marks.
+ghost use Rattle.std.specs.Prelude.{◌≡◌, ◌↔◌, List, Option, false, length};
+ghost use Rattle.access_marks.specs.declared.marks.Marks.{Marks};
+ghost use Rattle.board_core.specs.History.{Event};
+ghost use Rattle.condition_script.specs.declared.rules.Ending.{Ending};
+ghost use Rattle.condition_script.specs.declared.rules.Rule.{Rule};
+ghost use Rattle.conditions.specs.Rules.{Holds};
+ghost use Rattle.marked_conditions.specs.Marked.{HoldsWith, asks_of_marks};
+
+/// A condition that doesn't ask of marks means with them what it means without. A law: there is nothing to run.
+pub fn marks_are_not_asked()
+    ensures { (rule : Rule) (events : List Event) (marks : List Marks) (end : Option Ending) → asks_of_marks rule ≡ false
+        → length events ≡ length marks
+        → HoldsWith rule events marks end ↔ Holds rule events end }
+{}

@@ -1,0 +1,12 @@
+//! Conditions that ask of marks (profile).
+#![tactic(auto)]
+
+mod laws;
+mod patterns;
+mod places;
+mod rules;
+
+pub use laws::marks_are_not_asked;
+pub use patterns::{mark_of, matches_with};
+pub use places::{asks_of_marks, failing_step_with};
+pub use rules::{first_unfit, first_with, holds_with};

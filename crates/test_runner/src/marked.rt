@@ -1,0 +1,123 @@
+//! Conditions that ask of marks, judged on the record of a schedule or a trace.
+ghost use Rattle.std.specs.Prelude.{IfSome};
+ghost use Rattle.board_terms.specs.Limits.{IsGood};
+
+use access_marks::{Marks, marks_of};
+use board_core::{Config, Event, Op, Reply};
+use conditions::{
+    Condition, Pattern, Rule, first_misfit, first_misfit_with, fits_step, has_fitting,
+};
+use marked_conditions::{asks_of_marks, failing_step_with, holds_with, mark_of};
+use outcome_statistics::{failing_step, is_met, meets};
+use std::alloc::{AllocError, Global};
+use test_report::{Unjudged, Verdict};
+
+/// The most events that a record with marks can have: those of a history (profile).
+const MOST_EVENTS: u64 = 1_000_000;
+
+/// The marks of a record's events, if a condition asks of them, and the record isn't longer than a history can be.
+///
+/// # Errors
+///
+/// Out of memory.
+pub(crate) fn marks_asked(
+    alloc: Global,
+    conditions: &[Condition],
+    config: &Config,
+    events: &[Event],
+) -> Result<Option<Vec<Marks>>, AllocError>
+    requires { IsGood config.now }
+{
+    if !conditions
+        .iter()
+        .any(|condition| asks_of_marks(&condition.rule))
+    {
+        return Ok(None);
+    }
+    match with_room(config, events.len() as u64) {
+        Some(config) => marks_of(alloc, &config, events),
+        None => Ok(None),
+    }
+}
+
+/// The same board with a history of so many events, in which a record with cuts has room.
+fn with_room(config: &Config, events: u64) -> Option<Config>
+    requires { IsGood config.now }
+    ensures { IfSome result IsGood }
+{
+    if events > MOST_EVENTS {
+        return None;
+    }
+    let mut roomy = *config;
+    roomy.limit = events.max(1);
+    Some(roomy)
+}
+
+/// The verdict of a condition on a record, which has these marks if some condition asks of them.
+pub(crate) fn judged(
+    rule: &Rule,
+    harts: u64,
+    events: &[Event],
+    marks: &Option<Vec<Marks>>,
+) -> Verdict {
+    if !asks_of_marks(rule) {
+        return match first_misfit(rule, harts) {
+            Some(misfit) => Verdict::Misfit(misfit),
+            None => Verdict::of(meets(rule, events, None)),
+        };
+    }
+    match (first_misfit_with(rule, harts), marks) {
+        (Some(misfit), _) => Verdict::Misfit(misfit),
+        (None, Some(marks)) if marks.len() == events.len() => {
+            Verdict::of(holds_with(rule, events, marks, None))
+        }
+        (None, _) => Verdict::NotJudged(Unjudged::NoMarks),
+    }
+}
+
+/// The place of the step with which a record fails a condition, if there is one.
+pub(crate) fn failing_place(
+    rule: &Rule,
+    events: &[Event],
+    marks: &Option<Vec<Marks>>,
+) -> Option<usize> {
+    match marks {
+        Some(marks) if asks_of_marks(rule) && marks.len() == events.len() => {
+            failing_step_with(rule, events, marks)
+        }
+        _ => failing_step(Some(rule), events),
+    }
+}
+
+/// Whether each pattern of a condition has a step in a record. Of a mark only an access counts that is translated, is a fetch, or
+/// faults.
+pub(crate) fn is_met_by(rule: &Rule, events: &[Event]) -> bool {
+    if !asks_of_marks(rule) {
+        return is_met(rule, events);
+    }
+    match rule {
+        Rule::Never(p) | Rule::OfSome(p) | Rule::Each(p) => has_step(p, events),
+        Rule::NeverAfter(p, q) | Rule::Before(p, q) => has_step(p, events) && has_step(q, events),
+        Rule::End(_) | Rule::CanEnd(_) => true,
+    }
+}
+
+/// Whether a pattern has a step in a record.
+fn has_step(p: &Pattern, events: &[Event]) -> bool {
+    match mark_of(p) {
+        Some(_) => has_access(p, events),
+        None => has_fitting(p, events),
+    }
+}
+
+/// Whether some access that is translated, is a fetch, or faults fits a pattern.
+fn has_access(p: &Pattern, events: &[Event]) -> bool {
+    for event in events {
+        let is_fetch = matches!(event.op(), Op::Fetch(_));
+        let faults = matches!(event.reply(), Reply::Fault(_));
+        if fits_step(p, event) && (is_fetch || faults || event.translation().is_some()) {
+            return true;
+        }
+    }
+    false
+}
