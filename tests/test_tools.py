@@ -72,6 +72,14 @@ class Tools(Test):
                 must(f"{name} {word}: {found}", found.returncode == 0 and not found.stderr and told)
         must("a tool left something", not os.listdir(self.room))
 
+    def test_each_bench_answers_help(self):
+        """A bench is measured by hand, so that nothing else shows that its imports are there."""
+        benches = sorted(it for it in os.listdir(os.path.join(ROOT, "bench")) if it.endswith(".py"))
+        must(f"{benches}", "explore.py" in benches)
+        for name in benches:
+            found = subprocess.run([sys.executable, os.path.join(ROOT, "bench", name), "--help"], stdin=subprocess.DEVNULL, capture_output=True, text=True, timeout=60)
+            must(f"{name}: status {found.returncode}: {found.stdout}{found.stderr}", not found.returncode and f"usage: {name}" in found.stdout)
+
     def test_each_tool_ends_quietly(self):
         """Where nobody reads on, each tool ends by the signal that other commands end by, and says nothing."""
         calls = [[os.path.join(TOOLS, name), *words] for name in tools() for words in (["--help"], PRINTS.get(name)) if words]
