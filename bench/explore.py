@@ -9,8 +9,7 @@ the examples, --random programs (default 40; those of at most three harts whose 
 and must count the same states, steps and orders, by their ends.
 
 The programs that are timed have three harts with page tables, of which one changes a leaf and asks for a fence of the others,
-once and more often, beside loads. `explore` looks at them twice, once for their condition and once to count orders; plain Rust
-judges no condition, and looks once. So the ratio is of both looks over one, and that of a look is half of it. The bytes are those
+once and more often, beside loads. `explore` also judges their condition and counts orders; plain Rust does neither. The bytes are those
 of the program's peak above that of a program with two states, by its states. Of --runs runs (default 5), in turns, the fastest
 counts, by the clock on the wall: look at the load that is printed. Where there is valgrind it counts instructions, which a busy
 machine doesn't change. With --agree nothing is timed.
@@ -35,9 +34,6 @@ BUILT = os.path.join(ROOT, "crates/sbiboard_test/out/sbiboard_test")
 
 # The states that may be found of a program that is timed, and of a random one.
 MOST, FEW = 1_000_000, 20_000
-
-# How often `explore` looks at a program of one condition: the second look counts the orders.
-LOOKS = 2
 
 
 def shootdown(times, loads):
@@ -134,19 +130,15 @@ def read(path):
 
 # ---- the table
 
-TIMES = ("states", "steps", "seconds", "plain Rust", "ratio", "of a look", "states a minute")
+TIMES = ("states", "steps", "seconds", "plain Rust", "ratio", "states a minute")
 BYTES = ("bytes a state", "plain Rust")
-INSTRUCTIONS = ("instructions a step", "plain Rust", "ratio", "of a look")
-
-
-def ratios(own, plain):
-    return [f"{own / plain:.2f}", f"{own / plain / LOOKS:.2f}"]
+INSTRUCTIONS = ("instructions a step", "plain Rust", "ratio")
 
 
 def times_cells(explorers, commands, states, steps, runs):
     found = [[explorers.run(command)[1] for command in commands] for _ in range(runs)]
     own, plain = map(min, zip(*found))
-    return [f"{states:,}", f"{steps:,}", f"{own:.3f}", f"{plain:.3f}", *ratios(own, plain), f"{60 * LOOKS * states / own:,.0f}"]
+    return [f"{states:,}", f"{steps:,}", f"{own:.3f}", f"{plain:.3f}", f"{own / plain:.2f}", f"{60 * states / own:,.0f}"]
 
 
 def print_rows(explorers, runs):
@@ -165,7 +157,7 @@ def print_rows(explorers, runs):
             row += [f"{(explorers.peak(command) - peak) / states:,.0f}" for command, peak in zip(commands, peaks)]
         if has_valgrind:
             own, plain = (explorers.instructions(command) / steps for command in commands)
-            row += [f"{own:,.0f}", f"{plain:,.0f}", *ratios(own, plain)]
+            row += [f"{own:,.0f}", f"{plain:,.0f}", f"{own / plain:.2f}"]
         print("| " + " | ".join(row) + " |", flush=True)
 
 

@@ -14,7 +14,7 @@ USAGES = (
     ["run", "--keep"], ["run", "--keep", "x"], ["run", "--keep=x"], ["run", "--keep=x", "--keep=y", "a"], ["run", "--keep", "x", "a", "b"], ["replay", "--keep", "x", "a"],
     ["check", "--", "a", "b"], ["run", "--"], ["run", "--keep", "--", "a"], ["run", "--help=x"], ["-V"], ["--version"], ["run", "--help"], ["check", "-h"], ["help", "help"], ["help", "fly"],
     ["test"], ["explore"], ["test", "--tiems", "5", "a"], ["test", "--times"], ["test", "--times", "x", "a"], ["test", "--times="], ["test", "--seed", "18446744073709551616", "a"],
-    ["test", "--seed", "99999999999999999999x"], ["test", "--jobs", "-1"], ["test", "--jobs", "+", "a"], ["test", "--times", "1", "--order", "1", "a"], ["test", "--order=1", "--times=1"],
+    ["test", "--seed", "99999999999999999999x"], ["test", "--jobs", "-1"], ["test", "--jobs", "+", "a"], ["test", "--times", "++5", "a"], ["explore", "--states", "+-1", "a"], ["test", "--seed", "+18446744073709551616", "a"], ["test", "--order", " 1", "a"], ["test", "--jobs", "0x1", "a"], ["test", "--times", "1", "--order", "1", "a"], ["test", "--order=1", "--times=1"],
     ["test", "--threads=1", "a"], ["test", "--threads", "--threads"], ["test", "--seed", "1", "--seed", "2", "--fly"], ["test", "a", "-xy"], ["test", "-V"], ["test", "--version"],
     ["explore", "--state", "1", "a"], ["explore", "--times", "1", "a"], ["explore", "--no-outcome", "a"], ["explore", "--seconds", "1.5", "a"], ["explore", "--tap", "--", "a"], ["explore", "--states"],
 )  # fmt: skip

@@ -1,7 +1,12 @@
 """Each number of the board's line counts in all orders, and in orders of a seed: programs that show it, beside the model."""
-from . import all_orders
-from .fixtures import PROGRAM, TESTER, Test, explored, must, named, told
+import os
+import random
+import re
+
+from . import all_orders, replays
+from .fixtures import PROGRAM, TESTER, Test, explored, must, named, told, told_of, write
 from .judge import Verdicts, condition
+from .test_modes import SPACES, schedules
 
 # A page table that is its own lower ones maps page 0x1000 to the RAM's first page and then to its second one, whose word is 0,
 # with another address space that is the same one where few bits are kept.
@@ -70,7 +75,30 @@ class BoardsOfAllOrders(Test):
             if len(all_orders.Orders(f"board {board}\n{blocks}").over) > 1 or int(board.split()[2]) < 9:
                 continue
             text, wanted = asking(board, blocks, asked)
-            _, lines = told(self.room, text, "--times", "300")
-            if held(lines) != wanted:
-                wrong.append((board, blocks.split("\n")[1], asked, held(lines), wanted))
+            for words, points in ((["--times", "300"], wanted), (["--times", "2", "--threads"], wanted * 2)):
+                _, lines = told(self.room, text, *words)
+                if held(lines) != points:
+                    wrong.append((words, board, blocks.split("\n")[1], asked, held(lines), points))
         must(f"{wrong[:9]}", not wrong)
+
+    @named("boards of schedules and traces are the scripts'")
+    def test_boards_of_schedules_and_traces_are_the_scripts(self):
+        """So is the board of a schedule and of a trace: of the worked rows on boards of all kinds each answer agrees, and a line that is changed is the one that differs."""
+        some, texts = random.Random(6), []
+        for _, board, steps in some.sample(schedules(), 120):
+            texts.append(replays.traced("\n".join([f"{board} {some.choice(SPACES)}" if some.random() < 0.8 else board, *steps]) + "\n"))
+        names = [write(os.path.join(self.room, f"{at}.trace"), text) for at, text in enumerate(texts)]
+        status, lines = told_of(self.room, *names)
+        points = [it for it in lines if it.startswith(("ok ", "not ok "))]
+        must(f"{points}", status == 0 and len(points) == len(names) and all(it.startswith("ok ") for it in points))
+        wanted = []
+        for name, text in zip(names, texts):
+            head, *steps = text.splitlines()
+            # (no board has such an answer)
+            at = some.randrange(len(steps))
+            got, steps[at] = steps[at], steps[at].partition(" -> ")[0] + " -> moved 9"
+            write(name, "\n".join([head, *steps]) + "\n")
+            wanted.append((at + 2, got))
+        status, lines = told_of(self.room, *names)
+        found = [(int(line), got) for line, got in re.findall(r'(?m)^    - line: (\d+)\n      wanted: ".* -> moved 9"\n      got: "(.*)"$', "\n".join(lines))]
+        must(f"{found}, and not {wanted}", status == 1 and found == wanted and lines.count("  differing: 1") == len(names))

@@ -49,7 +49,7 @@ FAULT_TEXTS = {
 SAID_EARLY = [["--version"], ["fly"], ["fly", "a"], ["--fly"]]
 
 # What the script reads before it builds.
-READ_EARLY = ("sbiboard", "crates.txt", "HANDLES", "tools/front", "crates/sbiboard/src/command_line.rt", "crates/sbiboard_test/src/command_line.rt")
+READ_EARLY = ("sbiboard", "crates.txt", "HANDLES", "tools/front", "crates/sbiboard/src/lib.rt", "crates/command_line/src/words.rt", "crates/sbiboard_test/src/command_line.rt")
 
 # Lines of a run that keeps its record.
 KEPT_EARLY = (["--keep", "k", "none"], ["--keep=k", "none"], ["none", "--keep", "k"], ["none", "--keep=k", "--"], ["--keep", "k", "--", "none"])

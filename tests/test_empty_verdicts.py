@@ -34,7 +34,7 @@ VACUOUS = (
     ("never 1 load 0x80005008 -> value 1", "1 load 0x80005008", HINT), ("never 1 load 0x80005008 -> value 1 after 0 store", "1 load 0x80005008", HINT),
     ("each 1 load 0x80005008 -> value 1", "1 load 0x80005008", HINT), ("some 1 load 0x80005008 -> value 1", "1 load 0x80005008", HINT),
     ("before 1 load 0x80005008, 0 store", "1 load 0x80005008", HINT), ("before 0 store, 1 load 0x80005008", "1 load 0x80005008", HINT),
-    ("before 0 store, 1 load 0x80005008 -> value 1", "1 load 0x80005008", HINT), ("never 1 wfi -> done", "1 wfi", ""), ("never 1 poll -> ret 0 _", "1 poll", ""),
+    ("before 0 store, 1 load 0x80005008 -> value 1", "1 load 0x80005008", HINT), ("before 0 store , 1 load 0x80005008 -> value 1", "1 load 0x80005008", HINT), ("never 1 wfi -> done", "1 wfi", ""), ("never 1 poll -> ret 0 _", "1 poll", ""),
     ("never 1 load after 0 store 0x80002000 2", "0 store 0x80002000 2", "; hart 0 stores 0x80002000 0x1 (line 5)"),
     ("never 1 load after 0 ecall 0x48534d -> ret -3", "0 ecall 0x48534d -> ret -3", "; such a step has another reply"), ("never 0 sip after 1 wfi", "1 wfi", ""),
     ("never _ load 0x80005008 -> value 1", "_ load 0x80005008", HINT), ("each c tick 5 -> done", "c tick 5", ""),
@@ -299,6 +299,12 @@ class EmptyVerdicts(Test):
             lines = RACE.count("\n") + 5, RACE.count("\n") + 6
             wanted = [f"not ok line {line}: '\\# !{word}' is a comment, and no condition" for line, word in ((1, "end"), (3, "each"), (lines[0], "never"), (lines[1], "end"))]
             must(f"{found}, and not {wanted}", status == 1 and found[1:] == wanted)
+        # (so it is of a schedule and of a trace)
+        for name, line in (("a.sched", "0 advance"), ("a.trace", "0 advance -> entry 0x80000000 0 0")):
+            for sign, word in (("# !never 0 sip", "never"), (" #\t! end quiet", "end"), ("# !maybe each 0 sip", "maybe")):
+                status, lines = told(self.room, f"{sign}\nboard 1 1 9 0 0x80000000 0\n{line}\n{sign}\n#! some 0 advance\n", name=name)
+                found = [it for it in points(lines) if it.endswith(" is a comment, and no condition")]
+                must(f"{name}, {sign}: {lines}", status == 1 and found == [f"not ok line {at}: '\\# !{word}' is a comment, and no condition" for at in (1, 4)])
         for sign in ("# ! important", "# never 1 load", "# it is !never so", "#!/usr/bin/env never", "# !", "#", "## !never 1 load"):
             status, found, _ = in_way(self.room, WAYS[0], f"{sign}\n{RACE}")
             must(f"{sign}: {found}", status == 0 and len(found) == 1)

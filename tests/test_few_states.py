@@ -14,6 +14,7 @@ SEEDS = ("--times", "1000")
 FLAGS = (["--times", "1000"], ["--times=7"], ["--seed", "0"], ["--seed", "9"], ["--order", "0"], ["--order", "5"], ["--threads"], ["--threads", "--times", "4"], ["--times", "0"])
 
 OTHERS = (["--jobs", "1"], ["--jobs", "9"], ["--failed", "."], ["--tap", "points.tap"], ["--seconds", "100"], ["--seconds", "100", "--jobs", "2"])
+OTHERS += tuple([option, str(number)] for option in ("--seconds", "--jobs") for number in ((1 << 31) - 1, 1 << 32, 1 << 63, (1 << 64) - 1))
 
 # A program of one order, which switches the board off.
 OFF = "board 1 1 50 0 0x80000000 0\nat 0x80000000\necall 0x53525354 0 0 0\n"

@@ -10,7 +10,7 @@ import re
 import shutil
 import subprocess
 from collections import Counter
-from unittest import SkipTest
+from unittest import SkipTest, mock
 
 import fuzzing
 from reports import FAULTS
@@ -211,17 +211,21 @@ class FuzzFirmware(Test):
             write(console, printed.replace("\n", "\r\n"))
             found = subprocess.run([TOOL, *words], stdin=subprocess.DEVNULL, capture_output=True, text=True, timeout=60)
             must(f"of two runs: status {found.returncode}, not {status}, and it said {found.stdout} {found.stderr}", found.returncode == status)
-        for wrong in (["--seeds", "5-4"], ["--seeds", "1", "--harts", "9"], ["--seeds", "1", "--operations", "0"]):
+        none, image = os.path.join(self.room, "none"), write(os.path.join(self.room, "image"), "another image")
+        files = [[name, none] for name in ("--bios", "--image", "--read")] + [["--image", image, "--write", none], ["--image", image, "--keep", os.path.join(image, "in it")]]
+        for wrong in (["--seeds", "5-4"], ["--seeds", "1", "--harts", "9"], ["--seeds", "1", "--operations", "0"], *(["--seeds", "1", *it] for it in files)):
             found = subprocess.run([TOOL, *wrong], stdin=subprocess.DEVNULL, capture_output=True, text=True, timeout=60)
-            must(f"{wrong}: {found}", found.returncode == 1 and found.stderr.startswith("fuzz-firmware: "))
+            must(f"{wrong}: {found}", found.returncode == 1 and found.stderr.startswith("fuzz-firmware: ") and found.stderr.count("\n") == 1)
 
     def test_fuzz__open_calls_explain(self):
-        """A hart that a fence under way woke, a suspend seen only at its hart's entry, and a start of a hart that enters meanwhile: nothing is unexplained."""
-        for name in ("fuzz-woken", "fuzz-suspended", "fuzz-entering"):
+        """A hart that a fence under way woke, a suspend seen only at its hart's entry, a start of a hart that enters meanwhile, and one of a
+        hart that stops while another one is woken: nothing is unexplained."""
+        for name, breaks in (("fuzz-woken", 1), ("fuzz-suspended", 1), ("fuzz-entering", 1), ("fuzz-starting", 0)):
             with gzip.open(os.path.join(RECORDS, f"{name}.record.gz")) as file:
                 path = write(os.path.join(self.room, name), file.read())
             found = subprocess.run([os.path.join(ROOT, "tools/to-trace"), "--report", path], stdin=subprocess.DEVNULL, capture_output=True, timeout=100)
-            must(f"{name}: {shown(found.stdout)}", found.returncode == 5 and b"\nbreaks the standard: 1\n" in found.stdout and b"\nunexplained: 0\n" in found.stdout)
+            told = (b"\nbreaks the standard: %d\n" % breaks, b"\nunexplained: 0\n")
+            must(f"{name}: {shown(found.stdout)}", found.returncode == (5 if breaks else 0) and all(it in found.stdout for it in told))
 
     def test_fuzz__a_silent_run(self):
         """Of a run that prints no record it is told how it ended, and what the console had last."""
@@ -255,6 +259,22 @@ class FuzzFirmware(Test):
             must(f"{words}: {os.listdir(self.room)}", {f"seed-{seed}.record" for seed in found} == set(os.listdir(self.room)))
             for it in os.listdir(self.room):
                 os.remove(os.path.join(self.room, it))
+
+    def test_fuzz__the_same_faults_by_gdb(self):
+        """A fault that comes with a call alone must be in both runs of a seed, unless one of them hung before the call."""
+        call, order = ("breaks the standard", "an error is one of the list"), ("calls that don't return", "get_spec_version")
+        every = Counter({function.name: 2 for function in FUNCTIONS.values()})
+        for printed, other, said in (
+            ([call], [call], "the same faults"), ([], [call], f"other faults: {[call]}"), ([], [], "the same faults"), ([], [order], f"the same faults, but for what hangs on the order: {[order]}"),
+            ([call], [], f"other faults: {[call]}"), ([call], [order], f"the same faults, but for what hangs on the order: {sorted([call, order])}"), ([order], [call], f"the same faults, but for what hangs on the order: {sorted([call, order])}"),
+            ([], [call, order], f"other faults: {[call]}, but for what hangs on the order: {[order]}"),
+        ):  # fmt: skip
+            runs, given = Judged({3: printed}, every), argparse.Namespace(seeds=fuzz.seeds("3"), harts=4, operations=40, checks=6, ticks=5, uart=6, runs=0, keep=self.room, every=False, gdb=True)
+            by_gdb = Judged({3: other}, every).run(fuzzing.Asked(3))
+            with contextlib.redirect_stdout(io.StringIO()) as text, mock.patch.object(fuzz, "by_gdb", lambda *_, by_gdb=by_gdb: by_gdb):
+                ended = fuzz.fuzzed(runs, given)
+            is_other = said.startswith("other")
+            must(f"{printed} {other}: status {ended}, {text.getvalue()}", f"seed 3: by gdb {said}\n" in text.getvalue() and ended == (5 if printed else 3 if is_other else 0))
 
     def test_fuzz__what_is_made_small(self):
         """A run of a fault is made small: what is left shows the same fault, and of the operations those alone that it needs."""

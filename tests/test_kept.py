@@ -9,8 +9,8 @@ from unittest import SkipTest
 
 from . import programs
 from .fixtures import (
-    BAD_BOARD, BOARD, FAILED_IO, FULL, HANG, ONE_BOARD, PROGRAM, ROOT, STUCK, TRACE, TWO_HARTS, WRONG_KIND, Test, must, must_be, ran, read_bytes, script,
-    shown, write,
+    BAD_BOARD, BOARD, FAILED_IO, FULL, HANG, ONE_BOARD, PROGRAM, ROOT, STUCK, TRACE, TWO_HARTS, WRONG_KIND, Test, allocating, must, must_be, piping, ran,
+    read_bytes, script, shim, shown, write,
 )  # fmt: skip
 
 # How many runs are killed.
@@ -145,6 +145,15 @@ class KeptRecords(Test):
         os.link(path, os.path.join(self.room, "linked"))
         must_be(ran(["run", "--keep", os.path.join(self.room, "linked"), path]), 7, b"", FAILED_IO)
         must("the program is gone", read(path) == TWO_HARTS)
+
+    def test_a_kept_record_on_another_file_system(self):
+        """FILE2 may have the program's number on another file system: it is another file. (Here each file has one number.)"""
+        made, kept = shim(self.room), write(os.path.join(self.room, "kept"), b"an older record\n")
+        run = lambda reading: allocating(made, self.room, ["run", "--keep", kept, f"/dev/fd/{reading}"], pass_fds=[reading], INODE="7")[0]
+        must_be(piping(TWO_HARTS, 100, run), 0, None, b"")
+        must("nothing is kept", b" -> " in read(kept))
+        path = script(self.room, TWO_HARTS)
+        must_be(allocating(made, self.room, ["run", "--keep", kept, path], INODE="7")[0], 7, b"", FAILED_IO)
 
     def test_a_kept_record_on_a_full_disk(self):
         """Where FILE2 can't be written any more, the run goes on to its end, prints all, and ends with status 7. What is kept is as

@@ -1,4 +1,4 @@
-"""What conditions say of accesses on any TLB: which are stale, and which are unsteady, of schedules and traces; and where no record tells it."""
+"""What conditions say of accesses on any TLB: which are stale, and which are unsteady, of schedules and traces, and of tried orders."""
 from .fixtures import TESTER, Test, must, told
 from .test_empty_verdicts import in_way, points
 
@@ -43,9 +43,77 @@ CASES = (
     (FETCHED.replace("1 fencei\n", ""), {"steady": False}), (FETCHED + "1 fetch 0x80004000\n", {"never stale": True, "steady": False, "steady 1 fetch": False}), (FETCHED + "1 fencei\n1 fetch 0x80004000\n", {"steady": True}), (FETCHED + "0 fencei\n1 fetch 0x80004000\n", {"steady": False}),
     (FETCHED + "0 store 0x80004000 0x11\n1 fetch 0x80004000\n", {"steady": False}), (FETCHED + "1 load 0x80004000\n", {"steady": True}), (RESET, {"steady": True, "never stale": True}),
 )  # fmt: skip
+# What kernels get wrong, each beside its mended twin: the condition that tells them apart, the wrong lines, and the right ones.
+MORE = BEFORE.replace("3 6 100", "3 12 100")
+ASK, SERVED = "0 ecall 0x52464e43 1 0x6 0 0x1000 0x1000\n", "1 serve\n2 serve\n0 poll\n"
+# A second root table, which maps the page to another one.
+SECOND = MORE + "0 store 0x80006000 0x20001c01\n0 store 0x80007000 0x20002001\n0 store 0x80008008 0x200014c7\n" + LOADED
+GLOBAL = MORE.replace("0x200010c7", "0x200010e7") + LOADED + "0 store 0x80003008 0x200014e7\n"
+# A superpage, whose part a table takes over.
+SUPER = MORE.replace("1 satp", "0 store 0x80002008 0x200000c7\n1 satp") + "1 load 0x204000\n"
+SPLIT = "0 store 0x80002008 0x20002401\n1 load 0x204000\n"
+READ_ONLY = MORE.replace("0x200010c7", "0x20001043") + LOADED
+# A hart that is off while the page is mapped anew.
+OFF = MORE + "1 load 0x1000\n1 ecall 0x48534d 1\n1 advance\n" + REMAPPED + "0 ecall 0x48534d 0 1 0x80000000 0\n1 advance\n1 satp 0x8000500000080001\n"
+TWINS = (
+    ("never stale", FORGOTTEN, BEFORE + LOADED + REMAPPED + ASK + SERVED + LOADED), ("steady", FORGOTTEN, BEFORE + LOADED + REMAPPED + ASK + SERVED + LOADED),
+    ("steady", BEFORE + LOADED + REMAPPED + ASK + "1 load 0x1000\n" + SERVED, BEFORE + LOADED + REMAPPED + ASK + SERVED + "1 load 0x1000\n"),
+    ("steady", AHEAD, BEFORE + REMAPPED + ASK + SERVED + "1 load 0x1000\n"),
+    ("steady", READ_ONLY + "0 store 0x80003008 0x200010c7\n1 store 0x1000 5\n", READ_ONLY + "0 store 0x80003008 0x200010c7\n1 load 0x1000\n"),
+    ("steady", MORE + LOADED + "0 store 0x80003008 0x20001043\n1 store 0x1000 5\n", MORE + LOADED + "0 store 0x80003008 0x20001043\n" + ASK + SERVED + "1 store 0x1000 5\n"),
+    ("steady", SECOND + "1 satp 0x8000500000080006\n1 load 0x1000\n", SECOND + "1 satp 0x8000600000080006\n1 load 0x1000\n"), ("never stale", SECOND + "1 satp 0x8000500000080006\n1 load 0x1000\n", SECOND + "1 satp 0x8000500000080006\n1 sfence - 5\n1 load 0x1000\n"),
+    ("never stale", GLOBAL + "1 sfence - 5\n1 load 0x1000\n", GLOBAL + "1 sfence - -\n1 load 0x1000\n"), ("steady", GLOBAL + "1 sfence 0x1000 5\n1 load 0x1000\n", GLOBAL + "1 sfence 0x1000 -\n1 load 0x1000\n"),
+    ("steady", SUPER + "0 store 0x80009020 0x200014c7\n" + SPLIT, SUPER + "0 store 0x80009020 0x200010c7\n" + SPLIT), ("steady", OFF + "1 load 0x1000\n", OFF + "1 sfence - -\n1 load 0x1000\n"),
+)  # fmt: skip
 # What no record has.
 WRONG = (("never 1 poll -> stale", "no poll is stale"), ("some c -> unsteady", "no tick is unsteady"), ("never 9 load -> stale", "the board has no hart 9"), ("never 0 sstatus 7 -> stale", "no sstatus has 7"))
 FAULTS = (("never 1 load -> stal", "unknown word: 'stal'"), ("never 1 load -> stale 1", "too few or too many words: '1'"), ("never stale 1", "'1'"), ("some stale", "not a number: 'stale'"), ("steady c tick -> done", "not a number: '->'"))
+
+
+START = """\
+board 3 6 120 0 0x80000000 0x0
+at 0x80000000
+store 0x80001000 0x20000801
+store 0x80002000 0x20000c01
+store 0x80003008 0x200010c7
+store 0x80004000 0x11
+store 0x80005000 0x22
+sie 0x2
+ecall 0x48534d 0 1 0x80000100 0
+wfi
+clearssip
+ecall 0x48534d 0 2 0x80000100 0
+wfi
+clearssip
+store 0x80003008 0x200014c7
+"""
+# A hart uses the page, says so, and uses it again when it is told to go on.
+USES = """\
+at 0x80000100
+sie 0x2
+satp 0x8000500000080001
+load 0x1000
+ecall 0x735049 0 0x1 0
+wfi
+clearssip
+load 0x1000
+"""
+
+
+def shootdown(mask, uses=USES):
+    """Hart 0 remaps the page, asks a fence of the harts of the mask, and lets harts 1 and 2 go on."""
+    return START + f"ecall 0x52464e43 1 {mask} 0 0x1000 0x1000\necall 0x735049 0 0x6 0\n" + uses
+
+
+FORGETS, FENCES = shootdown("0x2"), shootdown("0x6")
+# A load that may come before the fence is served.
+WINDOW = shootdown("0x6", USES.replace("wfi\n", "load 0x1000\nwfi\n"))
+# A program, and which of these conditions its orders meet.
+PROGRAMS = (
+    (FORGETS, {"never stale": False, "steady": False, "steady 1": True, "never 1 -> stale": True, "some 2 load -> stale": True, "each 2 load -> stale": False, "never 2 -> stale after 0 poll": False, "before 0 poll, 2 load -> stale": True, "maybe never stale": False}),
+    (FENCES, {"never stale": True, "steady": True, "some 2 load -> stale": False, "never _ -> unsteady after 0 poll": True}),
+    (WINDOW, {"never stale": False, "steady": False, "never _ -> stale after 0 poll -> ret 0 _": True, "some _ load -> stale": True}),
+)  # fmt: skip
 
 
 class Marks(Test):
@@ -59,18 +127,53 @@ class Marks(Test):
                 found = [it.startswith("ok ") for it in lines if it.startswith(("ok ", "not ok "))]
                 must(f"{script}: {lines}", found == list(asked.values()) and status == (0 if all(found) else 1))
 
+    def test_known_answers(self):
+        """A condition finds what kernels get wrong, and nothing in the mended twin."""
+        for asked, wrong, right in TWINS:
+            for script, met in ((wrong, False), (right, True)):
+                status, lines = told(self.room, f"#! {asked}\n{script}", name="a.sched")
+                must(f"{asked}: {script}: {lines}", status == (0 if met else 1) and not any("refused" in it or "never met" in it for it in lines))
+
     def test_what_no_step_can_have(self):
         """A mark of what is no access is told, and so is each other word that no step has."""
         for asked, why in WRONG:
             status, lines = told(self.room, f"#! {asked}\n{FENCED}", name="a.sched")
             must(f"{asked}: {lines}", status == 1 and points(lines) == [f"not ok line 1: {asked}: {why}"])
 
-    def test_programs_tell_no_marks(self):
-        """No order of a program is judged by a mark, in any way; no such condition is met."""
-        for way in (("sbiboard", ()), ("sbiboard", ("--times", "5")), ("sbiboard explore", ())):
-            for asked, mark in (("never stale", "stale"), ("steady", "unsteady"), ("maybe never 0 load -> stale", "stale"), ("some 0 load -> unsteady", "unsteady")):
-                status, found, lines = in_way(self.room, way, f"#! {asked}\nboard 1 2 9 0 0x80000000 0\nat 0x80000000\nload 0x80001000\n")
-                must(f"{way}: {asked}: {lines}", status == 1 and found == [f"not ok line 1: {asked}: only schedules and traces tell what is {mark}"])
+    def test_programs(self):
+        """Of a program the marks of each tried order count, and of each run on threads."""
+        for text, asked in PROGRAMS:
+            for words, reach in ((("--times", "60"), "60 orders of unknown many, seed 0"), (("--times", "20", "--seed", "7", "--jobs", "3"), "20 orders of unknown many, seed 7")):
+                for it, met in asked.items():
+                    status, found, lines = in_way(self.room, ("sbiboard", words), f"#! {it}\n{text}")
+                    must(f"{words}: {it}: {text}: {lines}", status == (0 if met else 1) and len(found) == 1 and found[0].startswith(f"{'ok' if met else 'not ok'} line 1: {it}: ") and (reach.split(",")[0] in found[0] or not met))
+        for text, asked, met in ((FORGETS, "never 2 load -> stale", False), (FORGETS, "never 1 load -> stale", True), (FENCES, "never stale", True), (FENCES, "steady", True)):
+            status, found, lines = in_way(self.room, ("sbiboard", ("--times", "5", "--threads")), f"#! {asked}\n{text}")
+            must(f"{asked}: {lines}", status == (0 if met else 1) and [it.startswith("ok ") for it in found] == [met, met])
+
+    def test_a_failing_order_is_kept(self):
+        """The record of the first order that fails tells the access that has the mark."""
+        status, lines = told(self.room, "#! never stale\n" + FORGETS, "--times", "30")
+        place = next(it.split()[1] for it in lines if it.startswith("  place: "))
+        must(f"{lines}", status == 1 and f"    {place} 2 load 0x1000 -> value 0x11" in lines and lines.count(f"    {place} 2 load 0x1000 -> value 0x11") == 1)
+
+    def test_programs_of_few_states(self):
+        """Where a condition asks of marks, orders are tried, though the states are few."""
+        status, found, lines = in_way(self.room, ("sbiboard", ()), "#! steady\nboard 1 2 9 0 0x80000000 0\nat 0x80000000\nfetch 0x80001000\n")
+        must(f"{lines}", status == 0 and found == ["ok line 1: steady: holds in 1,000 orders of unknown many, seed 0"])
+
+    def test_programs_without_such_accesses(self):
+        """A condition on marks of a program that translates nothing, fetches nothing and takes no fault is vacuous."""
+        for asked, said in (("steady", "_"), ("never stale", "stale"), ("steady 0 load", "0 load"), ("some 0 load -> unsteady", "0 load -> unsteady")):
+            status, found, lines = in_way(self.room, ("sbiboard", ("--times", "5")), f"#! {asked}\nboard 1 2 9 0 0x80000000 0\nat 0x80000000\nload 0x80001000\n")
+            wanted = f"not ok line 1: {asked}: vacuous: no step is '{said}' in the 5 orders tried; such a step isn't translated, and neither fetches nor faults"
+            must(f"{asked}: {lines}", status == 1 and found == [wanted])
+
+    def test_explore_judges_no_marks(self):
+        """`explore` makes no records, so it judges no such condition, and says so. It judges the others."""
+        for asked in ("never stale", "steady", "maybe never 0 load -> stale", "some 0 load -> unsteady", "each 0 load -> stale"):
+            status, found, lines = in_way(self.room, ("sbiboard explore", ()), f"#! {asked}\n#! end quiet\nboard 1 2 9 0 0x80000000 0\nat 0x80000000\nload 0x80001000\n")
+            must(f"{asked}: {lines}", status == 8 and found[0].startswith(f"not ok line 1: {asked}: not judged: only records tell marks, and explore makes none: use test") and found[1].startswith("ok line 2") and not any("record:" in it for it in lines))
 
     def test_faults(self):
         """A mark is one word, behind an arrow, or alone behind `never`."""

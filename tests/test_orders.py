@@ -314,8 +314,12 @@ class Orders(Test):
             write(os.path.join(self.room, "a.sched"), text)
             status, lines = told_of(self.room, "--times", "3", "a.sched", "race.program")
             must(f"{text!r}: {lines}", status == 1 and lines[1:3] == [f"not ok 1 - a.sched{why}", "ok 2 - race.program: no order ends stuck: holds in 3 orders of unknown many, seed 0"])
-        status, lines = told_of(self.room, "none", "folder")
-        must(f"{lines}", status == 1 and lines[1:3] == ["not ok 1 - none: no such file", "not ok 2 - folder: is a directory"])
+        os.symlink("loop", os.path.join(self.room, "loop"))
+        os.symlink("none", os.path.join(self.room, "leads nowhere"))
+        why = {"none": "no such file", "folder": "is a directory", "": "no such file", "leads nowhere": "no such file", "none/x": "no such file", **dict.fromkeys(("race.program/x", "race.program/", "loop", "x" * 256, "x/" * 3_000), "can't be read")}
+        for name in ("sbiboard", "sbiboard explore"):
+            status, lines = told_of(self.room, *why, name=name)
+            must(f"{lines}", status == 1 and lines[1 : 1 + len(why)] == [f"not ok {at} - {it}: {said}" for at, (it, said) in enumerate(why.items(), 1)])
 
     def test_files_that_may_not_be_read_are_told(self):
         """A file that may not be read is a point that fails; where root asks, who may read all, someone else asks."""
@@ -490,9 +494,10 @@ class Orders(Test):
         told(self.room, "#! end off\n" + RACE)
         found = tester(self.room, "--times", "1000", "--failed", "nowhere", "race.program")
         must(f"{found}", found.returncode == 7 and found.stderr.startswith("sbiboard: nowhere/race.program.0-0.failed: "))
-        with open("/dev/full", "w") as full:
-            found = tester(self.room, "race.program", stdout=full)
-        must(f"{found}", found.returncode == 7 and found.stderr.startswith("sbiboard: "))
+        for name, words in (("sbiboard", ["race.program"]), ("sbiboard explore", ["race.program"]), ("sbiboard", ["--help"]), ("sbiboard explore", ["-h"])):
+            with open("/dev/full", "w") as full:
+                found = tester(self.room, *words, name=name, stdout=full)
+            must(f"{name} {words}: {found}", found.returncode == 7 and (found.stderr == "" or found.stderr.startswith("sbiboard: ")))
 
     def test_points_are_written_into_a_file_too(self):
         """--tap writes the same points into a file, and --seconds ends by itself and says so."""
@@ -502,10 +507,13 @@ class Orders(Test):
         must(f"{lines}", status == 0 and lines[-1] == "# cut short: not all orders were tried")
         # (it takes the place of no file that is tested, under whatever name)
         os.link(os.path.join(self.room, "race.program"), os.path.join(self.room, "linked"))
+        others = [write(os.path.join(self.room, f"{at}.program"), RACE) for at in range(3)]
         for path in ("race.program", "./race.program", "linked"):
-            found = tester(self.room, "--tap", path, "race.program")
-            must(f"{found}", found.returncode == 7 and found.stderr.startswith(f"sbiboard: {path}: ") and found.stdout == "")
-            must(path, read(os.path.join(self.room, "race.program")) == RACE)
+            for at in range(len(others) + 1):
+                files = [*others[:at], "race.program", *others[at:]]
+                found = tester(self.room, "--tap", path, *files)
+                must(f"{files}: {found}", found.returncode == 7 and found.stderr.startswith(f"sbiboard: {path}: ") and found.stdout == "")
+                must(path, read(os.path.join(self.room, "race.program")) == RACE)
         for path in ("nowhere/points.tap", "/dev/full"):
             found = tester(self.room, "--tap", path, "race.program")
             must(f"{found}", found.returncode == 7 and found.stderr.startswith(f"sbiboard: {path}: "))
@@ -544,7 +552,7 @@ class Orders(Test):
         """What is told doesn't depend on the processors, nor on how many orders are tried at a time."""
         text = "#! never 1 load -> value 1\n#! some 1 load -> value 0\n" + LOADS_AND_STORES
         whole = told(self.room, text, "--times", "3000", "--seed", "5", "--jobs", "1")
-        for words in (["--jobs", "4"], ["--jobs", "3"], ["--jobs", "200"], []):
+        for words in (["--jobs", "4"], ["--jobs", "3"], ["--jobs", "200"], ["--jobs", "0"], ["--jobs", str(1 << 32)], ["--jobs", str((1 << 64) - 1)], []):
             must(f"{words}", told(self.room, text, "--times", "3000", "--seed", "5", *words) == whole)
         command = [TESTER, "--times", "3000", "--seed", "5", "race.program"]
         alone = subprocess.run(command, cwd=self.room, capture_output=True, text=True, timeout=HANG, preexec_fn=lambda: os.sched_setaffinity(0, [min(os.sched_getaffinity(0))]))

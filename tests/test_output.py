@@ -52,6 +52,8 @@ WRONG = (
     (SCHEDULE, "0 load 1_000", 8, "did you mean '1000'?"), (SCHEDULE, "0\u00a0sip", 2, "a blank that only looks like one"), (SCHEDULE, "0 load", 7, "a word is missing (fault 5)"), (SCHEDULE, "0 value 1", 3, "before a reply an arrow stands"),
     (OF_TRACE, "1 load 0x1000 -> 0x11", 18, "no reply word stands before it: did you mean 'value 0x11'?"), (OF_TRACE, "1 sip -> 0x2", 10, "did you mean 'value 0x2'?"), (OF_TRACE, "0 advance -> 1", 14, "did you mean 'moved 1'?"), (OF_TRACE, "0 ecall 0x10 0 -> 0x1000000", 19, "did you mean 'ret 0 0x1000000'?"),
     (OF_TRACE, "0 sip -> valu 1", 10, "unknown reply 'valu' (fault 3): did you mean 'value'?"), (OF_TRACE, "0 sip ->", 9, "behind the arrow a reply is wanted"),
+    (OF_TRACE, "1 fetch 0x1000 -> 0x11", 19, "did you mean 'value 0x11'?"), *((SCHEDULE, f"{word} sip", 1, "an actor is c, or the number of a hart: did you mean '1'?") for word in ("hart1", "H1:", "cpu_1", "CPU1:", "core1", "+1", "hart_1:")),
+    *((SCHEDULE, f"{word} tick 1", 1, "did you mean 'c'?") for word in ("clk", "timer")), (SCHEDULE, "0 load +16", 8, "did you mean '16'?"), (SCHEDULE, "0 store 0x80000000 +1_6", 20, "did you mean '16'?"), (SCHEDULE, "0 sfence 1_6 -", 10, "did you mean '16'?"),
     (PROGRAMS, "ecal 1 2", 1, "did you mean 'ecall'?"), (PROGRAMS, "poll", 1, "the firmware of a program does it by itself"), (PROGRAMS, "tick 1", 1, "'tick' stands in the block of the clock"), (PROGRAMS, "at 80001000", 4, "did you mean '0x80001000'?"),
     (PROGRAMS, "#! nevr 0 sip", 4, "unknown condition: 'nevr': did you mean 'never'?"), (PROGRAMS, "#! never 0 laod 1", 12, "unknown word: 'laod': did you mean 'load'?"), (PROGRAMS, "at 0x80000000", 4, "a second block of '0x80000000' (fault 7)"),
     (PROGRAMS, "amoswp 0x80000000 1", 1, "unknown operation 'amoswp' (fault 3): did you mean 'amoswap'?"), (SCHEDULE, "1 stre1 0x80000000 1", 3, "did you mean 'store1'?"), (SCHEDULE, "1 stor 0x80000000 1", 3, "unknown operation 'stor' (fault 3): did you mean 'store'?"), (PROGRAMS, "#! never 0 amoadd.W", 12, "did you mean 'amoadd.w'?"),
@@ -295,6 +297,16 @@ class Xml(Made):
         self.junit("a.sched")
         must("what is left", glob.glob(os.path.join(self.room, "made.xml*")) == [os.path.join(self.room, "made.xml")])
 
+    def test_junit__a_link(self):
+        """Where FILE is a link, the XML is written where it leads, whether there is something or not, and the link stays."""
+        self.put("a.sched", BOARD + "0 sip\n")
+        self.put("b.sched", BOARD + "0 fly\n")
+        os.symlink("real.xml", os.path.join(self.room, "made.xml"))
+        for name, errors in (("b.sched", "1"), ("a.sched", "0"), ("b.sched", "1")):
+            *_, root = self.junit(name)
+            must(f"{name}", root.get("errors") == errors and os.readlink(os.path.join(self.room, "made.xml")) == "real.xml" and os.path.isfile(os.path.join(self.room, "real.xml")))
+            must("more is left", not glob.glob(os.path.join(self.room, "*.new")))
+
     def test_names_with_control_characters(self):
         """A name with control characters, which a point shows as `?`, is the file's name in JSON and in the XML."""
         for name in ("a\tb.sched", "a\nb.sched", "a\x7fb\x85.sched"):
@@ -303,6 +315,13 @@ class Xml(Made):
             must(f"{found}", [(it["file"], it["line"]) for it in found if it["kind"] == "point"] == [(name, 2)])
             *_, root = self.junit(name)
             must(f"{name!r}", [it.get("name") for it in root] == [name])
+        # (XML can't have all of them)
+        for name, as_xml in (("a\x01b.sched", "a?b.sched"), ("a\x1b[2Jb.sched", "a?[2Jb.sched"), ("a\x0bb\x0c.sched", "a?b?.sched"), ("a\ufffeb.sched", "a?b.sched")):
+            self.put(name, "#! never 0 advance\n" + BOARD + "0 advance\n")
+            _, found, _ = self.json("test", "--json", name)
+            must(f"{found}", [it["file"] for it in found if it["kind"] == "point"] == [name])
+            *_, root = self.junit(name)
+            must(f"{name!r}", [it.get("name") for it in root] == [as_xml] and f"record: ./{as_xml}.failed" in root[0][0][0].text and root[0][0].get("classname") == as_xml)
 
     def test_json__what_was_said(self):
         """The last line has the status and what standard error has, and the first is there, also where nothing could be read or written."""
@@ -482,6 +501,17 @@ class Explained(Made):
         must(f"{told}", [it.split(":")[0] for it in told] == ["3", "33"] and told[0].endswith(", and 29 more such lines"))
         must("BOOTADDR", self.told("replay", "a.sched", "board 1 1 9 0 80000000 0\n0 sip\n") == ["1:15: bad board: BOOTADDR is 0x4c4b400, not an even address of the RAM: did you mean '0x80000000'?"])
         must("nothing", self.told("replay", "a.sched", "") and self.told("check", "b.trace", "# none\n"))
+        # (a file of 16-bit characters, with a mark or without one, in either order)
+        for coding, column in (("utf-16", 1), ("utf-16-be", 1), ("utf-16-le", 2)):
+            told = self.told("replay", "a.sched", (BOARD + "0 sip\n").encode(coding))
+            must(f"{coding}: {told}", any(it.startswith(f"1:{column}: ") and it.endswith(": the file is UTF-16: save it as ASCII") for it in told))
+        # (each number of the board's line is told where it stands)
+        good = ["2", "4", "100", "0", "0x80000000", "0x0", "16", "39"]
+        for place, name, bad in ((0, "HARTS", "200"), (1, "PAGES", "0"), (2, "LIMIT", "1000001"), (3, "BOOTHART", "2"), (4, "BOOTADDR", "0x70000000"), (6, "ASIDLEN", "17"), (7, "WIDTH", "40")):
+            line = " ".join(["  board", *good[:place], bad, *good[place + 1 :]])
+            for task in ("replay", "test"):
+                told = self.told(task, "a.sched", f"# first\n{line}\n0 sip\n")
+                must(f"{name}: {told}", len(told) == 1 and told[0].startswith(f"2:{len(' '.join(['  board', *good[:place]])) + 2}: bad board: {name} is {bad}"))
         # (of several files those of each, and twenty are as many as may be)
         for name, many in (("a.sched", 19), ("b.sched", 20), ("c.sched", 21)):
             self.put(name, BOARD + "".join(f"0 fly{at}\n" for at in range(many)))

@@ -5,11 +5,11 @@ import re
 from board_model import access_of
 
 from . import all_orders, judge, random_programs, replays
-from .expected_points import Case
-from .fixtures import PROGRAM, TESTER, Test, must, ran, read, tester, told, told_of, write
+from .expected_points import Case, grouped
+from .fixtures import NO_MEMORY, PROGRAM, TESTER, Test, allocating, must, piping, ran, read, shim, tester, told, told_of, write
 from .test_few_states import EDGES, are_all
 from .test_judged_orders import explored, orders_alone, run_on_threads, tested, tried
-from .test_orders import RACE
+from .test_orders import RACE, STALE
 
 # Hart 1 loads beside two stores of hart 0, which does some more before and behind them: its records are long, and differ.
 LONG = """\
@@ -181,6 +181,63 @@ ecall 0x48534d 0 1 0x80000010
 at 0x80000010
 ecall 0x53525354 0 2 0
 """
+
+# A hart that fences three others again and again, which have told it that they run, and serve in any order: 6 orders of each fence.
+FENCES = "board 4 1 100000 0 0x80000000 0x0\nat 0x80000800\necall 0x735049 0 1 0\nat 0x80000000\nsie 0x2\n"
+FENCES += "".join(f"ecall 0x48534d 0 {hart} 0x80000800\nwfi\nclearssip\n" for hart in (1, 2, 3))
+
+# Each hart that loads is another one, and hart 0 loads in blocks of which the later one stands in front.
+LOADING = """\
+board 3 8 200 0 0x80000000 0x0
+at 0x80002000
+load 0x80003000
+at 0x80001000
+load 0x80003000
+load 0x80004000
+at 0x80000000
+load 0x80003000
+sie 2
+ecall 0x735049 0 1 0
+ecall 0x48534d 0 1 0x80001000
+ecall 0x48534d 0 2 0x80001000
+ecall 0x48534d 3 0x80000000 0x80002000
+"""
+
+# A program with a block that no order enters, an entry without a block, a call whose every answer is an error, and harts that wait,
+# by the addresses of its blocks.
+SPELLED = """\
+board 3 4 200 0 {0} 0x0
+at {0}
+ecall 0x48534d 0 1 {1}
+ecall 0x48534d 0 2 0x80003000
+load 0x80002000
+at {2}
+sip
+at {1}
+ecall 0x48534d 0 9 {1}
+load 0x80002000
+wfi
+"""
+ADDRESSES = 0x80000000, 0x80001000, 0x80002000
+
+# Files with the words of calls, of which something is told by the numbers of lines: conditions, blocks, calls, harts that wait, loads, lines
+# that are refused, stale, or differ, and faults.
+LINED = (
+    ("a.program", "#! never _ load 0x1000 -> value 1\n#! some 0 fencei\n#! end quiet\n" + SPELLED.format(*map(hex, ADDRESSES)), (["sbiboard"], ["sbiboard", "--times", "40"], ["sbiboard explore"])),
+    ("a.program", "#! never 1 load -> value 1\n#! some 1 load -> value 1\n" + LOADING, (["sbiboard"], ["sbiboard", "--times", "40"], ["sbiboard explore"])),
+    ("a.program", "# !never 0\n" + RACE, (["sbiboard"],)), ("a.program", RACE + "#! nevr\n", (["sbiboard"], ["sbiboard explore"])),
+    ("a.sched", STALE + "0 poll\n#! never 0 poll\n#! never 0 fetch\n", (["sbiboard"],)), ("a.sched", STALE + "0 fly\n", (["sbiboard"],)),
+    ("a.trace", "board 1 1 9 0 0x80000000 0\n0 advance -> gone\n0 sip -> value 0\n\n0 sip -> value 1\n#! some 0 poll\n", (["sbiboard"],)),
+)  # fmt: skip
+
+
+def shifted(line, by):
+    """A line that is told of a file, where so many lines stand in front of its own."""
+    more = lambda found: found[1] + re.sub(r"\d+", lambda it: str(int(it[0]) + by), found[2]) + found[3]
+    for pattern in (r"(\bline:? )(\d+)()", r"(\(lines )([\d, ]+)()", r"( \d+:)(\d+)(=)", r"(- a\.\w+:)(\d+)(:\d+: )", r'("\./a\.\w+\.)(\d+)(\.(?:failed|reached)")'):
+        line = re.sub(pattern, more, line)
+    return line
+
 
 # Two harts whose stores leave one word or another one, whatever the load gives: an outcome of two states.
 TWO_ENDS = """\
@@ -393,3 +450,141 @@ class Points(Test):
             write(os.path.join(self.room, "a.program"), f"board 1 1 9 0 0x80000000 0\nat 0x80000000\n{op}\n")
             lines = tester(self.room, "a.program", name="sbiboard explore").stdout.splitlines()
             must(f"{op}: {lines}", f"#   0:{op.count(chr(10)) + 3}={wanted} quiet: 1 states, 1 orders" in lines)
+
+    def test_each_hart_is_told_by_its_number(self):
+        """A hart is told by its own number, up to 127: one that is stuck, one that loads, and one whose step a condition lacks."""
+        for hart in (0, 1, 31, 32, 63, 64, 65, 100, 126, 127):
+            for boot, others in ((hart, ""), (127 - hart, f"at 0x80000000\necall 0x48534d 0 {hart} 0x80000800\n")):
+                if boot == hart and others:
+                    continue
+                block = "load 0x80000000\nwfi\n"
+                text = f"board 128 1 99 {boot} 0x80000000 0\n{others}at {0x80000800 if others else 0x80000000:#x}\n{block}"
+                load = text.count("\n") - 1
+                stuck = f"    - \"hart {hart}: line {load + 1} 'wfi': SSIP is 0, STIP is 0, SSIE is 0, STIE is 0\""
+                for words in ([], ["--times", "2"], ["--times", "2", "--threads"]):
+                    _, lines = told(self.room, text, *words)
+                    found = [it for it in lines if it.startswith("    - ")]
+                    must(f"{text}: {lines}", found == [stuck] * (2 if "--threads" in words else 1))
+                write(os.path.join(self.room, "a.program"), text)
+                lines = tester(self.room, "a.program", name="sbiboard explore").stdout.splitlines()
+                must(f"{text}: {lines}", f"#   {hart}:{load}=0x0 stuck: 1 states, 1 orders" in lines and stuck in lines)
+                for words in ([], ["--times", "2"]):
+                    _, lines = told(self.room, f"{text}#! never _ load 0x1000 -> value 1\n", *words)
+                    must(f"{text}: {lines}", lines[1].endswith(f"; hart {hart} loads 0x80000000 (line {load})"))
+
+    def test_each_hart_that_does_it_is_told(self):
+        """Of a step that a condition lacks each hart is told that does alike, with its own lines, in their order, wherever its blocks stand."""
+        asked = ("never _ load 0x80005000 -> value 1", "before 0 load 0x80005000, 1 sip", "each 1 load 0x80005000 -> value 1", "never 0 sip after _ load 0x80005000")
+        case = case_of(self.room, "a.program", LOADING + "".join(f"#! {it}\n" for it in asked))
+        explored(self.room, [case])
+        must("few", tested(self.room, [case]) == 1)
+        tried(self.room, [case], orders_alone(self.room, [case], 3), 3)
+        _, lines = told_of(self.room, "a.program")
+        must(f"{lines[1]}", all(it in lines[1] for it in ("hart 0 loads 0x80003000 (lines 3, 8)", "hart 1 loads 0x80003000 (line 5), 0x80004000 (line 6)", "hart 2 loads 0x80003000 (line 5), 0x80004000 (line 6)")))
+
+    def test_counts_of_all_sizes_are_grouped(self):
+        """Of few states the number of orders is told in groups of three digits, however many they are, up to the greatest that is counted."""
+        sizes = set()
+        for fences in (0, 1, 2, 4, 8, 12, 16, 20, 24, 28, 32):
+            text = FENCES + "ecall 0x52464e43 1 0xe 0\n" * fences
+            many = sum(all_orders.Orders(text).ends.values())
+            _, lines = told(self.room, text)
+            must(f"{fences}: {lines}, and counted {many:,}", are_all(lines) and lines[1] == f"ok 1 - race.program: no order ends stuck: holds in all orders: {grouped(many)}")
+            sizes.add(len(f"{many:,}".split(",")))
+        must(f"{sizes}", len(sizes) > 6 and max(sizes) > 8)
+
+    def test_a_cut_is_told_of_any_file(self):
+        """The summary says that not all orders were seen, of whichever file these are."""
+        small, large = "board 1 1 9 0 0x80000000 0\nat 0x80000000\nsip\n", MANY_ORDERS.replace("sip\n" * 70, "sip\n" * 9)
+        for name, text in (("small.program", small), ("large.program", large)):
+            write(os.path.join(self.room, name), text)
+        for files in (["small.program", "large.program"], ["large.program", "small.program"], ["small.program", "large.program", "small.program"], ["small.program"], ["small.program"] * 2):
+            status, lines = told_of(self.room, "--states", "20", *files, name="sbiboard explore")
+            is_cut = "large.program" in files
+            must(f"{files}: {status}, {lines}", (lines[-1] == "# cut short: not all orders were seen") == is_cut and status == (8 if is_cut else 0))
+
+    def test_an_address_is_one_however_it_is_written(self):
+        """Addresses of blocks, decimal, hexadecimal or with zeros in front, are told alike: what is odd, who is stuck, what loads gave, and which lines do otherwise."""
+        asked = "#! never _ load 0x1000 -> value 1\n#! end quiet\n"
+        spellings = [hex, str, lambda it: f"0x{it:020X}", lambda it: f"000{it}"]
+        for words, name in (([], "sbiboard"), (["--times", "40"], "sbiboard"), ([], "sbiboard explore")):
+            found = []
+            for spelled in spellings:
+                text = SPELLED.format(*map(spelled, ADDRESSES))
+                write(os.path.join(self.room, "a.program"), asked + text)
+                _, lines = told_of(self.room, *words, "a.program", name=name)
+                # (a call's text is as it is written)
+                found.append([it.replace(spelled(ADDRESSES[1]), hex(ADDRESSES[1])) if ": each answer to " in it else it for it in lines])
+            must(f"{found}", all(it == found[0] for it in found))
+            odd = [it.split(":")[0] for it in found[0] if it.startswith(("# line ", "# a hart ", "    - \"hart 1"))]
+            must(f"{odd}, {found[0]}", odd == ['    - "hart 1', "# line 8", "# line 11", "# a hart was entered at 0x80003000, where no block is"] and found[0][1].endswith("; hart 0 loads 0x80002000 (line 7), hart 1 loads 0x80002000 (line 12)"))
+
+    def test_points_and_records_on_another_file_system(self):
+        """A file of points, or of a record, may have a tested file's number on another file system: it is another file. (Here each file has one number.)"""
+        made, points = shim(self.room), write(os.path.join(self.room, "points"), "older points\n")
+
+        def run(reading):
+            write(os.path.join(self.room, f"{reading}.1.failed"), "an older record\n")
+            found, _ = allocating(made, self.room, ["--tap", "points", f"/dev/fd/{reading}"], pass_fds=[reading], program=TESTER, cwd=self.room, INODE="7")
+            return found, read(os.path.join(self.room, f"{reading}.1.failed"))
+
+        found, record = piping(f"#! end off\n{RACE}".encode(), 100, run)
+        must(f"{found}", found.returncode == 1 and not found.stderr and read(points) == found.stdout.decode() and record.startswith("board 2 4 "))
+        write(os.path.join(self.room, "race.program"), RACE)
+        found, _ = allocating(made, self.room, ["--tap", "points", "race.program"], program=TESTER, cwd=self.room, INODE="7")
+        must(f"{found}", found.returncode == 7 and not found.stdout)
+
+    def test_each_thread_of_a_test_refused(self):
+        """Each thread refused in turn, of runs and of orders that are tried side by side: no memory, after whole points at most, or all is told as it is, where it can do without."""
+        made = shim(self.room)
+        # (of one order, so that each run has the same record)
+        write(os.path.join(self.room, "race.program"), "#! end quiet\nboard 1 1 9 0 0x80000000 0\nat 0x80000000\nsip\n")
+        for words, is_needed in ((["--times", "3", "--jobs", "1", "--threads"], True), (["--times", "40", "--jobs", "3"], False)):
+            run = lambda number: allocating(made, self.room, [*words, "race.program"], thread=number, program=TESTER, cwd=self.room)[0]
+            whole, refused = run(0), 0
+            must(f"{whole}", whole.returncode == 0 and not whole.stderr)
+            for number in range(1, 12):
+                found = run(number)
+                if found.returncode == 6:
+                    refused += 1
+                    must(f"{words}, thread {number}: {found}", found.stderr == NO_MEMORY and whole.stdout.startswith(found.stdout))
+                else:
+                    must(f"{words}, thread {number}: {found}", (found.returncode, found.stdout, found.stderr) == (whole.returncode, whole.stdout, whole.stderr))
+            # (a run has a thread for its hart and one for the clock)
+            must(f"{words}: {refused} threads are missed", refused == 6 * is_needed)
+
+    def test_numbers_of_lines_are_whole(self):
+        """What is told by the number of a line is told by that number behind 70,000 lines, too; and so it is of a column."""
+        many, seen = 70_000, set()
+        for name, text, calls in LINED:
+            for called, *words in calls:
+                write(os.path.join(self.room, name), text)
+                plain = told_of(self.room, *words, name, name=called)
+                write(os.path.join(self.room, name), "#\n" * many + text)
+                status, lines = told_of(self.room, *words, name, name=called)
+                must_be_lines(f"{called} {words} {text}", lines, [shifted(it, many) for it in plain[1]])
+                must(f"{called} {words} {text}", status == plain[0])
+                seen |= {re.sub(r"[\d\W]+", " ", it)[:24] for it in lines if str(many // 100) in it}
+        must(f"{seen}", len(seen) > 12)
+        for text, column in ((" " * many + "0 fly\n", many + 3), ("#!" + " " * many + "nevr\n", many + 3), ("0 sip #" + " " * many + "\r#\n", many + 8)):
+            _, lines = told(self.room, "board 1 1 9 0 0x80000000 0\n" + text, name="a.sched")
+            must(f"{lines}", lines[1].startswith(f"not ok 1 - a.sched:2:{column}: "))
+
+    def test_all_that_is_odd_is_told(self):
+        """However many blocks are not entered, entries have no block, calls are always answered by errors, and harts wait: each is told."""
+        harts, blocks, wanted, stuck = 40, [], [], []
+        start = "".join(f"ecall 0x48534d 0 {hart} {0x80000000 + 16 * hart:#x}\n" for hart in range(1, harts))
+        text = f"board {harts} 1 9999 0 0x80000000 0\nat 0x80000000\n{start}"
+        for hart in range(1, harts):
+            line = text.count("\n") + 1
+            if hart % 2:
+                text += f"at {0x80000000 + 16 * hart:#x}\necall 0x48534d 0 99 {hart}\nwfi\nat {0x80000800 + hart * 2:#x}\n"
+                wanted += [f"# line {line + 1}: each answer to 'ecall 0x48534d 0 99 {hart}' was an error", f"# line {line + 3}: no order entered the block at {0x80000800 + hart * 2:#x}"]
+                stuck.append(f"    - \"hart {hart}: line {line + 2} 'wfi': SSIP is 0, STIP is 0, SSIE is 0, STIE is 0\"")
+            else:
+                blocks.append(f"# a hart was entered at {0x80000000 + 16 * hart:#x}, where no block is")
+        for words in (["--times", "3"], ["--times", "3", "--threads"]):
+            _, lines = told(self.room, text, *words)
+            found = [it for it in lines if it.startswith(("# line ", "# a hart "))]
+            must(f"{words}: {found}, and not {wanted + blocks}", found == wanted + blocks)
+            must(f"{words}: {lines}", [it for it in lines if it.startswith("    - ")] == stuck * (2 if "--threads" in words else 1))

@@ -115,8 +115,10 @@ PLAYS = [
          [*TWO_LINES, call(1, *FENCE), "1 ret 0 0x0", "m end limit"], 3, ["the limit of 2 s was over"], words=("--seconds", "2")),
     *(Play(f"the limit, where a hart has {done}", [*TWO, calls(1, HSM, *of), {"waits": 3}, calls(0, TIME, 0, 6), is_back(0), {"waits": 60}],
            [*TWO_LINES, call(1, HSM, *of), "m end limit"], 3, ["the limit of 1 s was over"], words=("--seconds", "1", "--grace", "4")) for done, of in (("stopped", (1,)), ("suspended itself", (3, 0)))),
-    Play("a hart that never enters", [enters(0), calls(0, HSM, 0, 1, HANDLER, 9), is_back(0), OFF],
-         [BOOT, call(0, HSM, 0, 1, HANDLER, 9), "0 ret 0 0x0", "m end off"], 3, ["hart 1 never enters, until the record's end"]),
+    Play("a hart that never enters", [enters(0), calls(0, HSM, 0, 1, HANDLER, 9), is_back(0), {**calls(0, TIME, 0, 5), "time": 5_000_003}, is_back(0), OFF],
+         [BOOT, call(0, HSM, 0, 1, HANDLER, 9), "0 ret 0 0x0", call(0, TIME, 0, 5), "0 ret 0 0x0", "m end off"], 3, ["hart 1 never enters, until the record's end"]),
+    Play("a machine that is switched off right behind a start", [enters(0), calls(0, HSM, 0, 1, HANDLER, 9), is_back(0), OFF],
+         [BOOT, call(0, HSM, 0, 1, HANDLER, 9), "0 ret 0 0x0", "m end off"]),
 ]  # fmt: skip
 
 
@@ -253,12 +255,13 @@ class Recorders(Test):
             must(f"of {harts} harts line {at} is {plain[at : at + 1]}, and not {wanted[at : at + 1]}, of {len(plain)} and {len(wanted)}", plain == wanted)
 
     def test_recorder__notes(self):
-        """Behind each line stand the time, sie, sip and SIE of sstatus of its hart then, each in its own place."""
+        """Behind each line stand the time, sie, sip and SIE of sstatus of its hart then, each in its own place, and behind an entry satp."""
         registers = [{"sie": 0x22, "sip": 2, "sstatus": 2}, {"sie": 2, "sip": 0x20, "sstatus": 0}, {"sie": 0x20, "sip": 0x22, "sstatus": 0x8000_0000_0000_0122}]
-        stops = [{**stop, **more} for stop, more in zip((enters(0), calls(0, TIME, 0, 5), is_back(0)), registers)]
+        stops = [{**stop, "satp": 7, **more} for stop, more in zip((enters(0), calls(0, TIME, 0, 5), is_back(0)), registers)]
         _, lines = recorded(self.room, Play("", [*stops, OFF], [], harts=1))
         notes = [" ".join(word for word in line.split(" ") if "=" in word) for line in lines]
         wanted = [f"time={at:#x} sie={it['sie']:#x} sip={it['sip']:#x} sstatus={it['sstatus'] >> 1 & 1}" for at, it in enumerate(registers, 1)]
+        wanted[0] += " satp=0x7"
         must(f"the notes are {notes}, and not {wanted}", notes == [*wanted, ""])
 
     def test_recorder__what_is_typed(self):

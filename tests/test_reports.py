@@ -7,6 +7,7 @@ from collections import Counter
 from itertools import zip_longest
 
 from board_model import ALL, BASE, GONE, HSM, IPI, RFENCE, SRST, TIME, WAITING, Board
+from liveness import LONG, SOON
 from numbers_here import Numbers
 from records import read as read_record
 from reports import CLASSES, FAULTS, Report
@@ -27,8 +28,8 @@ STORED = [("wrong-answers", 5), ("hangs", 5), ("entries", 5), ("boot-hart", 0), 
 BOOT = "record 3\n0 entry 0x80200000 0 0x87e00000\n"
 TWO = BOOT + "0 call 0x48534d 0 1 0x80200100 7 0 0 0\n0 ret 0 0\n1 entry 0x80200100 1 7\n"
 TIMER = "0 call 0x54494d45 0 100 0 0 0 0 0\n"
-# The hart's stop is refused there and not here, so the model knows nothing of it any more.
-LOST = TWO + "1 call 0x48534d 1 0 0 0 0 0 0\n1 ret -1 0\n"
+# The hart's stop is refused here and not there, so the model knows nothing of it any more.
+LOST = TWO + "1 call 0x48534d 1 0 0 0 0 0 0 sstatus=1\n# it is gone\n"
 
 
 def call(eid, fid, *numbers, hart=0):
@@ -51,6 +52,10 @@ def at(time, more="", hart=0):
 
 # A timer whose time has come behind a later return of its hart, and when it should surely have been seen.
 DUE, LATE = noted(TIME, 0, 90, was="time=50", now="sip=0x0 time=60") + at(70, "sip=0x0") + "0 ret 0 0x1000000 time=90 sip=0x0\n", 10_000_090
+# A hart that sleeps until an IPI comes, and the IPI.
+DOZES, SENDS = call(HSM, 3, 0, hart=1)[:-1] + " sie=0x2 sip=0x0 time=50\n", call(IPI, 0, 2)[:-1] + " time=60\n0 ret 0 0 time=70\n"
+# A state that is told so many ticks behind time 50.
+TOLD_STARTED = f"{call(HSM, 2, 1)[:-1]} time={{}}\n0 ret 0 0 time={{}}\n"
 # A suspend that an external interrupt may end.
 SLEEPS = call(HSM, 3, 0, hart=1)[:-1] + " sie=0x200 sip=0x0\n"
 # A stop whose hart is still STARTED for a while, and before that is seen, an answer that differs.
@@ -72,7 +77,7 @@ WRONG = [
     ("a version with bit 31", TWO + answered(BASE, 0, ret="0 0x81000000"), "breaks", 6),
     ("a version 0", TWO + answered(BASE, 0, ret="0 0"), "breaks", 6),
     ("a version that loosens nothing", BOOT + answered(BASE, 0, ret="0 0xff000000") + answered(TIME, 0, 5, ret="-9 0"), "breaks", 5),
-    ("Base that isn't there by the probe", TWO + answered(BASE, 3, BASE), UNEXPLAINED, 6),
+    ("Base that isn't there by the probe", TWO + answered(BASE, 3, BASE), "breaks", 6),
     ("a function that Base hasn't", TWO + answered(BASE, 7), "breaks", 6),
     ("a function that IPI hasn't", TWO + answered(IPI, 1, 1), "breaks", 6),
     ("an extension that nobody has", TWO + answered(0x12345, 0), UNEXPLAINED, 6),
@@ -82,6 +87,8 @@ WRONG = [
     ("an error of Base, by an id that is cut", TWO + answered(1 << 32 | BASE, 0, ret="-6 0"), "breaks", 6),
     ("a state that isn't one, by an id that is cut", TWO + answered(1 << 63 | HSM, 2, 1, ret="0 7"), "breaks", 6),
     ("a valid list that is refused", TWO + answered(IPI, 0, 3, ret="-3 0"), "breaks", 6),
+    *((f"a start beyond 56 bits that succeeds{what}", TWO + answered(HSM, 0, 2, 1 << 56, 9) + entry, "breaks", 6) for what, entry in (("", ""), (", and enters", f"2 entry {1 << 56:#x} 2 9\n"))),
+    ("a list of all harts that is refused", TWO + answered(IPI, 0, 0, ALL, ret="-3 0"), "breaks", 6),
     ("a valid range that is refused", TWO + answered(RFENCE, 1, 1, 0, 0x1000, 0x1000, ret="-5 0"), UNEXPLAINED, 6),
     ("a hart that isn't there, started", TWO + answered(HSM, 0, 9, 0x80200100), "breaks", 6),
     ("a hart that isn't there, with a state", TWO + answered(HSM, 2, 9), "breaks", 6),
@@ -135,8 +142,35 @@ WRONG = [
     ("a timer that never comes, whose time had come before", TWO + noted(TIME, 0, 90, was="time=95", now="sip=0x0 time=99") + at(LATE, "sip=0x0"), "breaks", 6),
     ("a timer that never comes, behind one that did", TWO + noted(TIME, 0, 20, was="time=10", now="time=30 sip=0x20") + DUE + at(LATE, "sip=0x2"), "breaks", 8),
     ("a wake without an interrupt that is pending", TWO + SLEEPS + "1 ret 0 0 sie=0x200 sip=0x0\n", UNEXPLAINED, 7),
-    ("Base that isn't there by the probe, and is by another value", TWO + answered(BASE, 3, BASE, ret="0 2") + answered(BASE, 3, BASE), UNEXPLAINED, 8),
+    ("Base that isn't there by the probe, and is by another value", TWO + answered(BASE, 3, BASE, ret="0 2") + answered(BASE, 3, BASE), "breaks", 8),
     ("an extension that is offered by another value, and not there", BOOT + answered(BASE, 3, TIME, ret="0 2") + answered(TIME, 0, 5, ret="-2 0"), "breaks", 5),
+    ("an extension that works, and then isn't there", TWO + answered(TIME, 0, 5) + answered(TIME, 0, 5, ret="-2 0"), "breaks", 8),
+    ("an extension that isn't there, and then works", TWO + answered(IPI, 0, 1, ret="-2 0") + answered(IPI, 0, 1), "breaks", 6),
+    ("an extension of which a function isn't there", TWO + answered(RFENCE, 0, 3) + answered(RFENCE, 1, 3, ret="-2 0"), "breaks", 8),
+    ("a probe that denies what works", TWO + answered(TIME, 0, 5) + answered(BASE, 3, TIME), "breaks", 8),
+    ("a probe that denies what another one told", TWO + answered(BASE, 3, SRST, ret="0 1") + answered(BASE, 3, SRST), "breaks", 8),
+    *((f"function {fid} of Base, which tells otherwise later", TWO + answered(BASE, fid, ret="0 0x1000000") + answered(BASE, fid, ret="0 0x2000000"), "breaks", 8) for fid in (0, 1, 2, 4, 5, 6)),
+    ("a satp at an entry", TWO.replace("1 entry 0x80200100 1 7", "1 entry 0x80200100 1 7 satp=0x8000000000080400"), "breaks", 5),
+    ("a satp at an entry that fits nowhere", TWO + "1 entry 0x80200100 1 7 satp=0x8000000000080400\n", "otherwise", 6),
+    ("a timer that comes early", TWO + noted(TIME, 0, 90, was="time=50", now="sip=0x0 time=60") + at(70, "sip=0x20") + "0 ret 0 0x1000000 time=80\n", "breaks", 6),
+    ("an IPI that nobody sent", TWO + noted(TIME, 0, 5, was="sip=0x0", now="sip=0x2"), "breaks", 6),
+    ("an IPI that was sent to another hart", TWO + answered(IPI, 0, 2, hart=1) + noted(TIME, 0, 5, was="sip=0x0", now="sip=0x2"), "breaks", 8),
+    ("two IPIs where one was sent", TWO + answered(IPI, 0, 1, hart=1) + 2 * noted(TIME, 0, 5, was="sip=0x0", now="sip=0x2"), "breaks", 10),
+    ("an IPI that wakes its hart and is lost", TWO + DOZES + SENDS + "1 ret 0 0 sie=0x2 sip=0x0 time=80\n", "breaks", 7),
+    ("a suspended hart that an IPI doesn't wake", TWO + DOZES + SENDS + at(LONG + 70) + "m end limit\n", "return", 6),
+    ("a suspended hart that an IPI doesn't wake, and a reset", TWO + DOZES + SENDS + at(LONG + 70) + "m reset\n0 entry 0x80200000 0 0x87e00000\n", "return", 6),
+    ("a hart in a non-retentive suspend that an IPI doesn't wake", TWO + DOZES.replace(" 3 0 0", " 3 0x80000000 0x80200100") + SENDS + at(LONG + 70) + "m end off\n", "return", 6),
+    ("a suspended hart that an IPI wakes late", TWO + DOZES + SENDS + at(LONG + 70) + f"1 ret 0 0 sie=0x2 sip=0x2 time={LONG + 80}\n", "return", 6),
+    *((f"a {what} that isn't done", TWO + made + TOLD_STARTED.format(LONG + 50, LONG + 60) + at(2 * LONG + 60) + "m end limit\n", "return", 6)
+      for what, made in (("stop", DOZES.replace(" 3 0 ", " 1 0 ")), ("suspend", DOZES))),
+    ("a shutdown behind which another hart goes on for long", TWO + call(SRST, 0, 0)[:-1] + " time=50\n" + at(LONG + 50, hart=1) + "1 ret 0 0x1000000\nm end limit\n", "return", 6),
+    *((f"a {what} reboot that switches the machine off", TWO + call(SRST, 0, kind) + "m end off\n", "enter", 6) for what, kind in (("cold", 1), ("warm", 2))),
+    ("a shutdown that reboots", TWO + call(SRST, 0, 0) + "0 entry 0x80200000 0 0x87e00000\n", UNEXPLAINED, 7),
+    ("a list that is refused, by a hart whose stop was", TWO + answered(HSM, 1, hart=1, ret="-1 0") + answered(IPI, 0, 3, ret="-3 0", hart=1), "breaks", 8),
+    ("a state behind a stop that was refused", TWO + answered(HSM, 1, hart=1, ret="-1 0") + answered(HSM, 2, 1, ret="0 1"), UNEXPLAINED, 8),
+    ("a state behind a suspend that was refused", TWO + answered(HSM, 3, 0, hart=1, ret="-2 0") + answered(HSM, 2, 1, ret="0 4"), UNEXPLAINED, 8),
+    ("a state behind a start that was refused", TWO + answered(HSM, 0, 2, 0x80200100, ret="-1 0") + answered(HSM, 2, 2, ret="0 2"), UNEXPLAINED, 8),
+    ("a state behind a reset that was refused", TWO + answered(SRST, 0, 0, 0xE0000000, ret="-3 0") + answered(HSM, 2, 1, ret="0 1"), UNEXPLAINED, 8),
 ]  # fmt: skip
 
 
@@ -189,8 +223,8 @@ TOLD = [
     ("an extension that isn't offered", BOOT + answered(BASE, 3, TIME) + answered(TIME, 0, 5, ret="-2 0"), "open", 5),
     ("a strange base", TWO + answered(IPI, 0, 0, 7), "open", 6),
     ("ids that are cut to 32 bits", TWO + answered(1 << 32 | BASE, 0, ret="0 0x1000000"), "open", 6),
-    ("a hart's life that went on otherwise", LOST + answered(HSM, 2, 1, ret="0 0"), "follows", 8),
-    ("an IPI and a timer that come during a call", TWO + noted(TIME, 0, 5, was="sie=0x22 sip=0 sstatus=1", now="sie=0x22 sip=0x22 sstatus=1"), None, 0),
+    ("a hart's life that went on otherwise", LOST + answered(HSM, 2, 1, ret="0 1"), "follows", 8),
+    ("an IPI and a timer that come during a call", TWO + answered(IPI, 0, 1, hart=1) + noted(TIME, 0, 5, was="sie=0x22 sip=0 sstatus=1", now="sie=0x22 sip=0x22 sstatus=1"), None, 0),
     ("a time that comes behind the return", TWO + noted(TIME, 0, 70, was="sip=0x20", now="sip=0x20 time=50") + call(BASE, 0)[:-1] + " time=80\n", None, 0),
     ("a time that may have come by the record's end", TWO + noted(TIME, 0, 70, was="sip=0x20", now="sip=0x20 time=50"), None, 0),
     ("other bits of sie", TWO + noted(TIME, 0, 5, was="sie=0x222", now="sie=0x22"), None, 0),
@@ -209,6 +243,23 @@ TOLD = [
     ("another hart's timer", TWO + DUE + at(LATE, "sip=0x0", hart=1), None, 0),
     ("a timer behind whose time its hart hasn't returned", TWO + noted(TIME, 0, 90, was="time=50", now="sip=0x0 time=89") + at(LATE, "sip=0x0"), None, 0),
     ("a timer where STIP isn't seen", TWO + DUE + at(LATE), None, 0),
+    ("a timer that comes behind the hart's next line", TWO + noted(TIME, 0, 90, was="time=50", now="sip=0x0 time=60") + at(80, "sip=0x20") + "0 ret 0 0x1000000 time=90\n", None, 0),
+    ("a timer that came before a reset", TWO + noted(TIME, 0, 90, was="time=50", now="sip=0x20 time=95") + "m reset\n0 entry 0x80200000 0 0x87e00000 time=5\n", None, 0),
+    *((f"an IPI that a list with {what} may have sent", TWO + answered(*send, hart=1) + noted(TIME, 0, 5, was="sip=0x0", now="sip=0x2"), None, 0)
+      for what, send in (("all harts", (IPI, 0, 0, ALL)), ("a strange base", (IPI, 0, 0, 9)), ("an address", (4, 0, 0x80300000)))),
+    *((f"a list that is refused, of {what}", TWO + answered(*send, ret="-3 0"), "open", 6)
+      for what, send in (("no hart", (IPI, 0, 0)), ("a stopped hart", (IPI, 0, 6)), ("a stopped hart to fence", (RFENCE, 1, 4, 0, 0x1000, 0x1000)))),
+    ("a list that is refused, of a hart that enters meanwhile", TWO + call(IPI, 0, 4) + answered(HSM, 0, 2, 0x80200100, 7, hart=1) + "2 entry 0x80200100 2 7\n0 ret -3 0\n", "open", 6),
+    ("a start that failed, and the next one", TWO + answered(HSM, 0, 2, 0x80200100, 7, ret="-1 0") + answered(HSM, 0, 2, 0x80200100, 7) + "2 entry 0x80200100 2 7\n", "open", 6),
+    ("ids of two harts' machines", TWO + answered(BASE, 4, ret="0 1") + answered(BASE, 4, ret="0 2", hart=1), "open", 6),
+    ("an IPI that comes behind a fence's wake", TWO + DOZES + answered(RFENCE, 0, 2) + SENDS + "1 ret 0 0 sie=0x2 sip=0x0 time=80\n", None, 0),
+    ("a suspended hart that is late", TWO + DOZES + SENDS + at(LONG + 69), None, 0),
+    ("a suspended hart that hasn't enabled the IPI", TWO + DOZES.replace("sie=0x2", "sie=0x20") + SENDS + at(LONG + 70), None, 0),
+    ("a suspended hart, and the IPI of another one", TWO + DOZES + SENDS.replace(" 0 2 0", " 0 1 0") + at(LONG + 70), None, 0),
+    ("a stop that is seen a little later", TWO + DOZES.replace(" 3 0 ", " 1 0 ") + TOLD_STARTED.format(LONG + 49, LONG + 49) + at(2 * LONG + 60), None, 0),
+    ("a suspend that has ended when its state is told", TWO + DOZES + SENDS + TOLD_STARTED.format(LONG + 50, LONG + 60) + f"1 ret 0 0 sie=0x2 sip=0x2 time={LONG + 65}\n", None, 0),
+    ("a shutdown behind which another hart goes on for a while", TWO + call(SRST, 0, 0)[:-1] + " time=50\n" + at(LONG + 49, hart=1) + "1 ret 0 0x1000000\nm end limit\n", "unjudged", 6),
+    ("a vendor's reset that switches the machine off", TWO + call(SRST, 0, 0xF0000000) + "m end off\n", "open", 6),
     ("a state by another order, before an answer that differs by its numbers", STOPS.replace("..", answered(BASE, 3, 1, ret="0 1")), "own", 7),
     ("a state by another order, before an answer that differs by the board's state", STOPS.replace("..", answered(HSM, 0, 2, 0x80200100, ret="-1 0")), "open", 7),
 ]  # fmt: skip
@@ -345,6 +396,18 @@ class Reports(Test):
         for line, said in ENDS:
             told = [*reported(TWO + answered(TIME, 0, 5) + line).lines()]
             must(f"{line!r}: {told}", [it for it in told if it.startswith("the record ends: ")] == [f"the record ends: {said}"])
+        for what, text in (("a stop", answered(HSM, 1, hart=1, ret="-1 0") + answered(HSM, 2, 1)), ("a reset", answered(SRST, 0, 0, 1, ret="-1 0") + answered(HSM, 2, 1, hart=1))):
+            report = reported(TWO + text + answered(IPI, 0, 3, hart=1))
+            must(f"behind {what} that was refused: {list(report.lines())}", report.counts == {"agree": 5, "open": 1} and not report.items["follows"])
+        for end in ("m end off\n", "m reset\n0 entry 0x80200000 0 0x87e00000\n"):
+            text = BOOT + answered(HSM, 0, 1, 0x80200100, 7, ret="0 0 time=50") + f"{call(TIME, 0, 5)[:-1]} time={{}}\n0 ret 0 0\n" + end
+            found = [[len(reported(text.format(time)).items[kind]) for kind in ("enter", "unjudged")] for time in (SOON + 49, SOON + 50)]
+            must(f"a hart that hasn't entered before {end!r}: {found}", found == [[0, 1], [1, 0]])
+        stopped = DOZES.replace(" 3 0 ", " 1 0 ") + answered(HSM, 0, 1, 0x80200100, 9) + 2 * TOLD_STARTED.format(LONG + 50, 3 * LONG) + "m end limit\n"
+        report = reported(TWO + stopped)
+        must(f"a stopped hart that is started again: {list(report.lines())}", [len(report.items[it]) for it in ("return", "enter")] == [0, 1])
+        told = [*reported(TWO + 2 * "m reset\n0 entry 0x80200000 0 0x87e00000\n" + answered(TIME, 0, 5)).lines()]
+        must(f"resets by no call: {told}", "resets by no call: 2, at line 6, 8" in told)
         must("an error of the version that has the extension is no fault", not reported(TWO + "0 call 0x535441 0 0 0 0 0 0 0\n0 ret -9 0\n", None, (), (1, 0)).is_bad)
         must("an error that the function's section doesn't name passes by --spec 2.0", reported(BOOT + answered(HSM, 2, 0, ret="-9 0"), None, (), (2, 0)).is_bad)
         path = script(self.room, (TWO + answered(PMU, 0, ret="-9 0")).encode())

@@ -44,7 +44,9 @@ class ToTraceOptions(Test):
                 os.remove(made)
         for words in ([], ["--fly", path], [path, path], ["--map", "1", path], ["--map", "x=y", path], ["--map", path], ["--ignore", "all", path], ["--ignore", "", path], ["--out"], ["--spec", "9.9", path], ["--symbols", path, path]):
             must(f"{words}", printed_by([TO_TRACE, *words], 2)[0] == "")
-        must("no file", printed_by([TO_TRACE, os.path.join(self.room, "none")], 1)[0] == "")
+        for words in ([os.path.join(self.room, "none")], ["--out", os.path.join(path, "in it"), path]):
+            printed, said = printed_by([TO_TRACE, *words], 1)
+            must(f"{words}: {printed!r}, {said!r}", not printed and said.startswith("to-trace: ") and said.count("\n") == 1)
         asked = write(os.path.join(self.room, "asked"), "# of all\n#! never 0 poll\nboard\n#! some 0 advance\n")
         with_them, _ = printed_by([TO_TRACE, "--conditions", asked, path])
         printed, said = printed_by([TO_TRACE, "--report", "--conditions", asked, path], 2)

@@ -143,6 +143,16 @@ class HtmlPages(Test):
         must_end(self.called("test", "good.sched", "--html", "pages"), *good)
         must("older pages", os.listdir(os.path.join(self.work, "pages")) == ["own.html"])
 
+    def test_html__folders_with_brackets(self):
+        """A folder's name is no pattern: its older pages are taken away, and those of another folder aren't."""
+        put(os.path.join(self.work, "good.sched"), "board 1 1 9 0 0x80000000 0x0\n0 advance\n")
+        for folder in ("pa", "p[a]", "p*", "[p] a/b?"):
+            self.called("test", "--html", folder, "a.sched")
+        for folder, left in (("p[a]", ["p*", "pa", "[p] a/b?"]), ("p*", ["pa", "[p] a/b?"]), ("[p] a/b?", ["pa"])):
+            must_end(self.called("test", "--html", folder, "good.sched"), 0, None, "sbiboard: no point fails, so no page is written\n")
+            found = {it: os.listdir(os.path.join(self.work, it)) for it in (folder, *left)}
+            must(f"{folder}: {found}", not found[folder] and all(len(found[it]) == 2 for it in left))
+
     def test_html__pages_of_somebody_else(self):
         """A list that --html hasn't made stays, and nothing is tested or taken away; nor does a page take the place of another one."""
         pages, own = os.path.join(self.work, "pages"), "<!DOCTYPE html>\n<title>mine</title>\n"
@@ -209,6 +219,11 @@ class HtmlPages(Test):
         pages = [page for page, *_ in rows(os.path.join(self.work, "pages/index.html"))]
         steps = [Drawn(os.path.join(self.work, "pages", f"{name}.html")).lines[0] for name, _ in pages]
         must(f"{pages} {steps}", pages == [("a.trace", 2), ("a.trace-2", 3), ("a.trace-3", 2)] and [len(it) for it in steps] == [2, 3, 2])
+        # (the list has a name, too)
+        put(os.path.join(self.work, "index"), TRACE)
+        self.called("test", "--html", "pages", "index", "a.trace")
+        pages = [page for page, *_ in rows(os.path.join(self.work, "pages/index.html"))]
+        must(f"{pages}", pages == [("index-2", 2), ("a.trace", 2)])
 
     def test_html__words(self):
         """--html has a folder, once, of `test` and `explore` alone; what it can't write or read is said before a test begins."""

@@ -1,23 +1,31 @@
 """Differences between recorded answers and the board's: what is compared, and each difference's verdict."""
 from bisect import bisect_right
 
-from board_model import ALL, BASE, GONE, HSM, INVALID_ADDRESS, INVALID_PARAM, IPI, LOW, RESUME_PENDING, RFENCE, SSI, STARTED, STI, SUSPEND_PENDING, SUSPENDED, TIME, WAITING, spelled_answer
+from board_model import (
+    ALL, BASE, GONE, HSM, INVALID_ADDRESS, INVALID_PARAM, IPI, LOW, NOT_SUPPORTED, RESUME_PENDING, RFENCE, STARTED, SUSPEND_PENDING, SUSPENDED, WAITING, spelled_answer,
+)  # fmt: skip
 from liveness import shown as spelled_call
-from records import UNSEEN, is_reset, is_suspend
+from records import UNSEEN, is_reset, is_suspend, listed
+from registers import READ_SIE
 from rules import TELLS, TOLD, UNEXPLAINED_VERDICT, by_this_state, certain, rule_of_entry, rule_of_wake, verdict_of
-from standard import FUNCTIONS, LEGACY, UNJUDGED, WITH_VALUE, Verdict, version_of
+from standard import FUNCTIONS, NO_ADDRESS, UNJUDGED, WITH_VALUE, Verdict, breaks, is_beyond, version_of
 from states import Difference
 
-READ_SIE = SSI | STI
 SUSPENDING = (SUSPENDED, SUSPEND_PENDING, RESUME_PENDING)
-# The legacy set_timer, and how many ticks behind its time a timer surely doesn't come any more: on a busy machine it is late.
-SUSP, SET_TIMER, LATE = 0x53555350, 0, 10_000_000
+SUSP = 0x53555350
+# The functions of Base whose value is always the same.
+STEADY = {(BASE, fid) for fid in (0, 1, 2, 4, 5, 6)}
 BEYOND = Verdict(UNJUDGED, "an address that isn't in this board's RAM was refused, and what the machine has there isn't recorded", "9.1, 9.4")
 WITHOUT_ANSWER = Verdict(UNJUDGED, "a call returned to an interrupt, and its answer wasn't seen", "3")
 
 
 def is_system_suspend(numbers):
     return numbers[:2] == (SUSP, 0)
+
+
+def is_refusal(answer):
+    """Whether this answer is an error: then the call has done nothing."""
+    return answer[0] == "ret" and answer[1] != 0
 
 
 class Differences:
@@ -29,11 +37,13 @@ class Differences:
         for place, line in enumerate(self.lines):
             if line.hart is not None:
                 self.places[line.hart].append(place)
-        # What the firmware says of itself: the version of the specification, and which extensions it has.
-        told = {line.numbers[:3]: self.lines[line.reply].numbers for line in self.lines if line.kind == "call" and line.reply is not None}
-        said = [reply[1] for numbers, reply in told.items() if numbers[:2] == (BASE, 0) and reply[0] == 0 and reply[1] < 1 << 31]
+        # What the firmware says of itself: the version of the specification, and which extensions it has, by a probe or by another answer
+        # than NOT_SUPPORTED.
+        told = [(line.numbers, self.lines[line.reply].numbers) for line in self.lines if line.kind == "call" and line.reply is not None]
+        said = [value for numbers, (error, value) in told if numbers[:2] == (BASE, 0) and error == 0 and value < 1 << 31]
         self.version = version or (version_of(said[0]) if said else (1, 0))
-        self.offered = {numbers[2] for numbers, reply in told.items() if numbers[:2] == (BASE, 3) and reply[0] == 0 and reply[1]}
+        self.offered = {numbers[2] for numbers, (error, value) in told if numbers[:2] == (BASE, 3) and error == 0 and value}
+        self.offered |= {numbers[0] for numbers, (error, _) in told if numbers[:2] in FUNCTIONS and error not in (None, NOT_SUPPORTED)}
 
     # ---- what was recorded
 
@@ -91,17 +101,20 @@ class Differences:
 
     def differs(self, state, hart, call, answer, shown):
         line = self.lines[call.place]
-        verdict = certain(state.board, call.op, line.numbers, answer, shown, self.version, line.numbers[0] in self.offered)
+        eid = line.numbers[2] if line.numbers[:2] == (BASE, 3) else line.numbers[0]
+        verdict = certain(state.board, call.op, line.numbers, answer, shown, self.version, eid in self.offered)
         if verdict is None and not self.origin(state, line, answer):
-            verdict = self.of_woken(state, call, shown) or self.of_entered(state, call, shown) or self.of_failing(state, call, shown) or by_this_state(state.board, call.op, answer, shown)
-        self.found(state, line, self.name(line), answer, self.said(call.place), verdict, self.touched(hart, call.op))
-        if call.op[1:3] == (IPI, 0):
+            verdict = self.by_its_state(state, call, shown) or by_this_state(state.board, call.op, answer, shown)
+        self.found(state, line, self.name(line), answer, self.said(call.place), verdict, set() if is_refusal(shown) else self.touched(hart, call.op))
+        if call.op[1:3] == (IPI, 0) and not is_refusal(shown):
             state.missed |= {h: line.number for h in self.named(line.numbers[2:4])}
 
     def agrees(self, state, hart, call, answer):
         """What is told of an answer that is alike: an address that is refused here since it isn't in the board's RAM, whatever
         the machine has there; and what a kernel says that it saw."""
         line = self.lines[call.place]
+        if answer == ("ret", 0, 0) and is_beyond(line.numbers):
+            state.put(Difference(line.number, f"{self.name(line)}: its address", "", "", NO_ADDRESS, None))
         if answer == ("ret", INVALID_ADDRESS, 0) and call.op[1] == HSM and line.numbers[3] % 2 == 0:
             state.put(Difference(line.number, f"{self.name(line)}: its address", "", "", BEYOND, None))
         fid, here, there = call.op[2:5]
@@ -116,54 +129,21 @@ class Differences:
         elif self.settled_answer(call.numbers, *numbers)[2] != numbers[1]:
             state.put(Difference(call.number, f"{self.name(call)}: a1", "0x0", f"{numbers[1]:#x}", verdict_of("values"), None))
 
-    def unkept(self):
-        """Of each call whose registers were seen at its return too: those that it changed. An IPI may come in between, and the
-        legacy extensions may clear SSIP."""
+    def unsteady(self):
+        """Calls by which the firmware tells otherwise of itself than by its first such call: of the machine, each hart for itself."""
+        first = {}
         for call in self.lines:
-            ret = self.lines[call.reply] if call.kind == "call" and call.reply is not None else None
-            for name, bits in (("sie", READ_SIE), ("sstatus", 1), ("sip", SSI)) if ret else ():
-                was, now = (line.notes.get(name) for line in (call, ret))
-                if was is None or now is None or name == "sip" and (now & SSI or call.numbers[0] in LEGACY):
-                    continue
-                if (was ^ now) & bits:
-                    yield Difference(call.number, f"{self.name(call)}: {name}", f"{was & bits:#x}", f"{now & bits:#x}", verdict_of("registers"), None)
-
-    def untimely(self):
-        """Of each set_timer behind whose return STIP is 1: those whose time hadn't come when the hart was seen again."""
-        for places in self.places.values():
-            for at, place in enumerate(places):
-                call = self.lines[place]
-                ret = self.lines[call.reply] if call.kind == "call" and call.numbers[:2] == (TIME, 0) and call.reply is not None else None
-                if ret is None or ret.numbers[0] != 0 or not ret.notes.get("sip", 0) & STI:
-                    continue
-                deadline = call.numbers[2]
-                later = (self.lines[other].notes["time"] for other in places[at + 2 :] if "time" in self.lines[other].notes)
-                if deadline > next(later, ALL - 1):
-                    yield Difference(call.number, f"{self.name(call)}: STIP at its return", "0x0", "0x1", verdict_of("timers"), None)
-
-    def overdue(self):
-        """Of each set_timer that succeeded: those whose hart returned behind the time, and made a call long behind it, while STIP was 0 at
-        each of its lines."""
-        for places in self.places.values():
-            timer, has_returned = None, False
-            for line in (self.lines[place] for place in places):
-                if line.kind == "entry" or line.notes.get("sip", 0) & STI:
-                    timer = None
-                passed = line.notes.get("time", -1) - timer.numbers[2] if timer else -1
-                if has_returned and line.kind == "call" and passed >= LATE and "sip" in line.notes:
-                    yield Difference(timer.number, f"{self.name(timer)}: STIP at line {line.number}", "0x1", "0x0", verdict_of("timers"), None)
-                    timer = None
-                has_returned |= line.kind == "ret" and passed >= 0
-                if line.kind == "call" and line.numbers[0] in (TIME, SET_TIMER):
-                    is_set = line.numbers[:2] == (TIME, 0) and line.reply is not None and self.lines[line.reply].numbers[0] == 0
-                    timer, has_returned = line if is_set else None, False
+            if call.kind != "call" or call.numbers[:2] not in STEADY or call.reply is None or self.lines[call.reply].numbers[0] != 0:
+                continue
+            fid, value = call.numbers[1], self.lines[call.reply].numbers[1]
+            known = first.setdefault((fid, call.hart if fid >= 4 else None), value)
+            if known != value:
+                section = FUNCTIONS[call.numbers[:2]].section
+                yield Difference(call.number, self.name(call), f"{known:#x}", f"{value:#x}", breaks("what a firmware tells of itself and of its machine stays", section), None)
 
     def named(self, pair):
         """The harts of a list, those of strange bits left out."""
-        mask, base = pair
-        if base == (1 << 64) - 1:
-            return list(range(self.record.harts))
-        return [self.record.place_of[base + i] for i in range(64) if mask >> i & 1 and base + i in self.record.place_of]
+        return listed(self.record, pair)
 
     def touched(self, hart, op):
         """The harts whose later answers may follow from this call's."""
@@ -202,6 +182,8 @@ class Differences:
     def look_at_notes(self, state, line, is_start):
         """What the hart's registers had at its entry, beside what the board's have."""
         board, hart = state.board, line.hart
+        if line.notes.get("satp"):
+            state.put(Difference(line.number, f"{self.id(hart)} entry: satp", "0x0", f"{line.notes['satp']:#x}", verdict_of("no satp"), None))
         here = {"sie": board.harts[hart].sie, "sip": board.sip(hart), "sstatus": board.harts[hart].sstatus}
         for name, value in here.items():
             there = line.notes.get(name)
@@ -212,6 +194,10 @@ class Differences:
                 rule = rule_of_entry(name, is_start, value, there)
                 verdict = verdict_of(rule) if rule else SSTATUS
                 state.put(Difference(line.number, f"{self.id(hart)} entry: {name}", f"{value:#x}", f"{there:#x}", verdict, None))
+
+    def by_its_state(self, state, call, shown):
+        """The rule that excuses an answer in this state, by what overlaps with its call."""
+        return self.of_woken(state, call, shown) or self.of_entered(state, call, shown) or self.of_failing(state, call, shown) or self.of_refused_list(call, shown)
 
     def of_woken(self, state, call, shown):
         """A hart that sleeps here has the state of one that goes on: there something woke it that doesn't wake it here."""
@@ -232,8 +218,18 @@ class Differences:
         hart = call.op[3]
         if call.op[1:3] != (HSM, 0) or shown[:2] != ("ret", INVALID_PARAM) or hart >= self.record.harts or state.board.harts[hart].state != STARTED:
             return None
+        return verdict_of("already available") if self.enters_beside(hart, call) else None
+
+    def enters_beside(self, hart, call):
+        """Whether the hart enters during this call, so that it was in another state before."""
         span = range(call.place, self.lines[call.place].reply)
-        return verdict_of("already available") if any(place in span and self.lines[place].kind == "entry" for place in self.places[hart]) else None
+        return any(place in span and self.lines[place].kind == "entry" for place in self.places[hart])
+
+    def of_refused_list(self, call, shown):
+        """A list was refused of which a hart entered while the call was under way."""
+        if call.op[1] not in (IPI, RFENCE) or shown[:2] != ("ret", INVALID_PARAM) or call.op[4] == ALL:
+            return None
+        return verdict_of("skipped") if any(self.enters_beside(hart, call) for hart in self.named(self.lines[call.place].numbers[2:4])) else None
 
     def of_failing(self, state, call, shown):
         """A hart that is STARTED here is in a suspend there, which fails later: its state, and what a start of it answers."""

@@ -7,9 +7,10 @@ from board_model import (
     ALL, ALREADY_AVAILABLE, GONE, HSM, INVALID_PARAM, IPI, RESUME_PENDING, RFENCE, SRST, SSI, START_PENDING, STARTED, STI, STOP_PENDING, STOPPED,
     SUSPEND_PENDING, SUSPENDED, TIME, WAITING, Board, spelled_answer,
 )  # fmt: skip
-from differences import READ_SIE, Differences, is_system_suspend
+from differences import Differences, is_refusal, is_system_suspend
 from numbers_here import Numbers
 from records import Broken, is_reset, is_suspend
+from registers import READ_SIE
 from rules import UNEXPLAINED_VERDICT, ignored_as, verdict_of
 from states import Choice, Difference, Open, State, is_excused
 
@@ -289,19 +290,25 @@ class Follower(Differences):
         if call.op[1:3] == (TIME, 0) and state.offset and call.op[3] != ALL:
             why += ", its time by the board's clock"
         before = state.board
+        kept = before.copy() if shown is not None and is_refusal(shown) else None
         if shown is not None and is_suspend(call.op[1:]):
             state.fenced -= {hart}
         answer = state.do(hart, call.op, line.number, why, self.said(call.place))
+        if is_refusal(answer) or answer[0] == "refused":
+            kept = None
         state.calls[hart] = Open(call.place, call.op, answer)
-        if call.op[1] == RFENCE and (answer == WAITING or shown in (WAITING, ("ret", 0, 0))):
+        if call.op[1] == RFENCE and (answer == WAITING and not kept or shown in (WAITING, ("ret", 0, 0))):
             # (also one that is refused here, or a hypervisor's)
             state.fenced |= {t for t in self.named(line.numbers[2:4]) if t != hart and before.harts[t].state in (SUSPENDED, SUSPEND_PENDING)}
-        if answer == GONE and is_reset(call.op[1:]):
+        if answer == GONE and is_reset(call.op[1:]) and not kept:
             state.forget()
         if shown is not None and answer != shown:
             self.differs(state, hart, call, answer, shown)
         else:
             self.agrees(state, hart, call, answer)
+        if kept:
+            # (what was refused there has done nothing, and so it is here; the trace is checked up to here alone)
+            state.board, state.calls[hart] = kept, Open(call.place, call.op, shown)
         return answer
 
     def advance(self, state, hart, why=None):
@@ -564,10 +571,11 @@ class Follower(Differences):
             self.polled(state, line)
 
     def catch_up(self, state, hart):
-        """What had begun may have been the cause: it is done."""
+        """What had begun may have been the cause: an IPI, a fence, or a start of the hart is done."""
         for other in sorted(state.calls):
             call = state.calls.get(other)
-            if call is not None and other != hart and call.answer is None and self.shown(call.place) in (WAITING, ("ret", 0, 0)):
+            is_cause = call is not None and (call.op[1] in (IPI, RFENCE) or call.op[1:4] == (HSM, 0, hart))
+            if is_cause and other != hart and call.answer is None and self.shown(call.place) in (WAITING, ("ret", 0, 0)):
                 self.effect(state, other)
         if self.is_being_fenced(state, hart):
             state.fenced |= {hart}

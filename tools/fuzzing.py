@@ -185,3 +185,8 @@ class Runs:
 def is_of_order(key):
     """Whether a fault may depend on the order in which harts go: others come with the call alone."""
     return not key[0].startswith("breaks")
+
+
+def may_lack(verdict, key):
+    """Whether a run of the same seed may lack a fault that another run has: by the order of its harts, or since a hart hung before it."""
+    return is_of_order(key) or any(is_of_order(other) for other in verdict.faults)

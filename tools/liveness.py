@@ -2,12 +2,19 @@
 other registers than requested."""
 from bisect import bisect_left
 
-from board_model import HSM, LOW
-from records import UNSEEN, is_reset, is_suspend
+from board_model import HSM, IPI, LOW, SSI, STARTED, suspend_error
+from records import UNSEEN, is_reset, is_suspend, listed
 from standard import FUNCTIONS
 
 SUSP = 0x53555350
 NON_RETENTIVE = 1 << 31
+# A cold and a warm reboot.
+REBOOTS = (1, 2)
+# How many ticks behind what should happen at once it surely doesn't any more: under gdb, on a busy machine, a hart may have no turn for
+# some seconds.
+LONG = 100_000_000
+# How many ticks a hart may need from its start to its entry: on one host thread other harts have their turns before it.
+SOON = 5_000_000
 
 
 class Fault:
@@ -45,7 +52,7 @@ def leaves(line):
 def faults(record):
     """All of them, by their lines."""
     lives = Lives(record)
-    found = [*lives.otherwise, *lives.without_return(), *lives.without_entry()]
+    found = [*lives.otherwise, *lives.without_return(), *lives.without_entry(), *lives.not_done(), *lives.not_woken()]
     return sorted(found, key=lambda fault: fault.at)
 
 
@@ -93,6 +100,9 @@ class Lives:
                 entered[line.hart] = place
             last[line.hart] = line
         if self.hanging and self.record.end != "limit":
+            if self.record.end == "off" and all(self.lines[at].numbers[2] & LOW in REBOOTS for at in self.hanging):
+                last = self.lines[max(self.hanging)]
+                self.otherwise.append(Fault(ENTER, last.number, f"{shown(self.record, last)}: the machine is switched off, and no hart enters", "10.1"))
             self.resets.append(len(self.lines))
             self.hanging = set()
 
@@ -132,6 +142,8 @@ class Lives:
         if line.then is not None and (reset is None or line.then < reset):
             if not leaves(line):
                 yield Fault(RETURN, line.number, f"{text}: its hart goes on at line {self.lines[line.then].number}", section_of(line.numbers))
+        elif place in self.hanging and self.ticks(place, len(self.lines)) >= LONG:
+            yield Fault(RETURN, line.number, f"{text}: the machine goes on for {self.ticks(place, len(self.lines))} ticks", section_of(line.numbers))
         elif place in self.hanging:
             yield Fault(OPEN_AT_END, line.number, f"{text}: the machine is neither reset nor off at the record's limit", "")
         elif is_leaving(line.numbers):
@@ -141,6 +153,49 @@ class Lives:
         else:
             yield Fault(OPEN_AT_END, line.number, f"{text}: open at {name or END}, {self.lines[-1].number - line.number} lines before the last", "")
 
+    # ---- what isn't done
+
+    def ticks(self, place, end):
+        """How many ticks the record tells of from one line up to another one, if the first has its time; at least 0."""
+        times = [line.notes["time"] for line in self.lines[place:end] if "time" in line.notes]
+        return max(times) - times[0] if "time" in self.lines[place].notes else 0
+
+    def away(self):
+        """Calls by which harts stop or suspend, which aren't refused, and the place of what ends them: their hart's next line, a start of
+        it that isn't refused, or a reset."""
+        for place, line in enumerate(self.lines):
+            is_refused = line.reply is not None and self.lines[line.reply].numbers[0] != 0
+            if line.kind == "call" and (line.numbers[:2] == (HSM, 1) or is_suspend(line.numbers)) and not is_refused:
+                start = next((at for at in self.starts.get(line.hart, ()) if at > place), None)
+                yield place, line, min(at for at in (line.then, start, self.next_reset(place)[0], len(self.lines)) if at is not None)
+
+    def not_done(self):
+        """Stops and suspends whose hart is told to be STARTED long behind their beginning, and long before it goes on."""
+        for place, line, end in self.away():
+            for at in range(place + 1, end):
+                asked = self.lines[at]
+                is_of_it = asked.kind == "call" and asked.numbers[:3] == (HSM, 2, self.record.ids[line.hart]) and asked.reply is not None
+                if is_of_it and self.lines[asked.reply].numbers == (0, STARTED) and self.ticks(place, at + 1) >= LONG <= self.ticks(asked.reply, end):
+                    text = f"its hart is said to be STARTED {self.ticks(place, at + 1)} ticks later, at line {asked.number}"
+                    yield Fault(RETURN, line.number, f"{shown(self.record, line)}: {text}", section_of(line.numbers))
+                    break
+
+    def not_woken(self):
+        """Default suspends that last long behind an IPI that their hart has enabled. (A timer needn't wake a hart.)"""
+        for place, line, end in self.away():
+            if not is_suspend(line.numbers) or suspend_error(line.numbers[2] & LOW) or not line.notes.get("sie", 0) & SSI:
+                continue
+            for at in range(place + 1, end):
+                call = self.lines[at]
+                if self.is_done(call, end) and call.numbers[:2] == (IPI, 0) and line.hart in listed(self.record, call.numbers[2:4]) and self.ticks(call.reply, end) >= LONG:
+                    text = f"its hart sleeps {self.ticks(call.reply, end)} ticks behind the IPI of line {call.number}"
+                    yield Fault(RETURN, line.number, f"{shown(self.record, line)}: {text}", "9.4")
+                    break
+
+    def is_done(self, call, end):
+        """Whether it is a call that has returned before this place, with success."""
+        return call.kind == "call" and call.reply is not None and call.reply < end and self.lines[call.reply].numbers[0] == 0
+
     def without_entry(self):
         for target, places in self.starts.items():
             for place in places:
@@ -148,7 +203,10 @@ class Lives:
                 end = len(self.lines) if reset is None else reset
                 if target is not None and line.reply is not None and not self.has_entry(target, place, end):
                     until = name or (LIMIT if self.record.end == "limit" else END)
-                    yield Fault(ENTER, line.number, f"{shown(self.record, line)}: hart {self.record.ids[target]} never enters, until {until}", "9.1")
+                    # (where the machine is switched off or reset right behind the start, the firmware has no time for it)
+                    is_soon = until != LIMIT and "time" in self.lines[line.reply].notes and self.ticks(line.reply, end) < SOON
+                    text = f"{shown(self.record, line)}: hart {self.record.ids[target]} never enters, until {until}"
+                    yield Fault(OPEN_AT_END if is_soon else ENTER, line.number, text, "" if is_soon else "9.1")
 
     def has_entry(self, hart, place, end):
         entries = self.entries.get(hart, [])

@@ -78,6 +78,8 @@ class Recorder:
 
     def write(self, hart, *words):
         notes = [f"time={time_now():#x}", f"sie={register('sie'):#x}", f"sip={register('sip'):#x}", f"sstatus={register('sstatus') >> 1 & 1}"]
+        if words[0] == "entry":
+            notes.append(f"satp={register('satp'):#x}")
         if self.tables and words[0] == "call":
             notes += [f"pc={register('mepc'):#x}", f"ra={register('ra'):#x}"]
             callers = self.tables.callers(register("satp"), register("s0"), register("sp")) if register("a7") == RFENCE else []

@@ -3,7 +3,7 @@ from board_model import ALL, HSM, IPI, RFENCE, SRST
 
 # Return addresses of callers, from the innermost one.
 CALLERS = ("ra", *(f"ra{place}" for place in range(2, 9)))
-NOTES = ("time", "sie", "sip", "sstatus", "pc", *CALLERS, "firmware")
+NOTES = ("time", "sie", "sip", "sstatus", "satp", "pc", *CALLERS, "firmware")
 COUNTS = {"call": 8, "ret": 2, "entry": 3, "satp": 1, "sfence": 2, "fencei": 0, "sinval": 2, "winval": 0, "invalir": 0}
 # Lines of page tables, which a trace has nothing of.
 OF_TABLES = ("satp", "sfence", "fencei", "sinval", "winval", "invalir", "store")
@@ -194,6 +194,14 @@ def named_by(numbers):
     if eid in (IPI, RFENCE) and a1 != ALL:
         return [a1 + i for i in range(64) if a0 >> i & 1]
     return []
+
+
+def listed(record, pair):
+    """The harts of a list by their places, those of strange bits left out."""
+    mask, base = pair
+    if base == ALL:
+        return list(range(record.harts))
+    return [record.place_of[base + i] for i in range(64) if mask >> i & 1 and base + i in record.place_of]
 
 
 def join(lines):

@@ -3,6 +3,7 @@ from collections import Counter
 
 import liveness
 from records import Broken
+from registers import Registers
 from rules import RULES
 from standard import BREAKS, OPEN, OWN, UNEXPLAINED, UNJUDGED
 from states import Difference
@@ -64,7 +65,7 @@ class Report:
             raise Broken(1, "nothing was recorded")
         faults = [of_fault(fault) for fault in liveness.faults(self.record) if not self.is_passed_over(fault.at)]
         entries = {fault.at for fault in faults if fault.kind == liveness.OTHERWISE}
-        seen = [item for item in (*follower.unkept(), *follower.untimely(), *follower.overdue()) if not self.is_passed_over(item.at)]
+        seen = [item for item in (*Registers(follower).differences(), *follower.unsteady()) if not self.is_passed_over(item.at)]
         found = [of_difference(item) for item in (*items, *seen) if isinstance(item, Difference)]
         # (an entry that nobody asked for is told once)
         found = [item for item in found if item.at not in entries or item.kind not in (UNEXPLAINED, liveness.OTHERWISE, FOLLOWS)]
@@ -112,6 +113,8 @@ class Report:
             yield f"  {self.counts[PASSED]} are passed over"
         yield f"compared: {self.compared} of {total}, {100 * self.compared / total:.1f} %" + (", and no call" if self.is_empty else "")
         yield f"the record ends: {ENDINGS[self.record.end]}"
+        if resets := [str(line.number) for line in self.record.lines if line.kind == "reset"]:
+            yield f"resets by no call: {len(resets)}, at line {', '.join(resets)}"
         for kind, (_, title) in CLASSES.items():
             yield f"{title}: {len(self.items[kind])}"
             yield from self.group(self.items[kind])

@@ -1,8 +1,8 @@
 """Which rule of this board a difference from a recorded answer is, its class, the section of SBI 1.0.0, and the answers that
 it excuses. Each sentence stands in docs/FIRMWARE.md, in the first column of a table of the section named (tests/test_to_trace.py looks)."""
 from board_model import (
-    ALREADY_AVAILABLE, BASE, EXTENSIONS, FAILED, GONE, HSM, INVALID_ADDRESS, INVALID_PARAM, IPI, LOW, NOT_SUPPORTED, RFENCE, SRST, SSI, STARTED, STOPPED,
-    SUSPEND_PENDING, SUSPENDED, WAITING, suspend_error,
+    ALL, ALREADY_AVAILABLE, BASE, EXTENSIONS, FAILED, GONE, HSM, INTERRUPTIBLE, INVALID_ADDRESS, INVALID_PARAM, IPI, LOW, NOT_SUPPORTED, RFENCE, SRST, SSI, STARTED,
+    STOPPED, SUSPEND_PENDING, SUSPENDED, WAITING, suspend_error, targets,
 )  # fmt: skip
 from standard import BREAKS, LATER, LEGACY, OPEN, OWN, PMU, UNEXPLAINED, UNJUDGED, Verdict, by_arguments, by_itself, by_state
 
@@ -46,6 +46,8 @@ RULES = {
     "unknown reasons": Rule("no start, suspend or reset fails for an unknown reason", CALLS, OPEN, "9.1, 9.4, 10.1", FAILED),
     "strange bits": Rule("a bit that names no hart refuses the whole list, and nobody is reached", LISTS, OPEN, "3", 0),
     "strange base": Rule("a base that is no hart's is refused with mask 0 too", LISTS, OPEN, "3", 0),
+    "empty lists": Rule("an empty list with a valid base succeeds", LISTS, OPEN, "3", INVALID_PARAM),
+    "skipped": Rule("a STOPPED, START_PENDING or STOP_PENDING hart is skipped without an error", LISTS, OPEN, "3", INVALID_PARAM),
     "whole hart ids": Rule("a hart id is all 64 bits", LISTS, BREAKS, "9.1, 9.3", 0, INVALID_ADDRESS, ALREADY_AVAILABLE),
     "ranges": Rule("start + size above 2^64 is INVALID_ADDRESS, and no other range is", FENCES, OPEN, "8.2, 8.3", 0),
     "fences don't wake": Rule("a fence waits at a suspended hart and doesn't wake it", FENCES, OPEN, "9.4", 0),
@@ -130,7 +132,8 @@ def certain(board, op, numbers, here, there, version, is_offered):
 
 def by_this_state(board, op, here, there):
     """The verdict where nothing went otherwise before."""
-    return by_state(board, op, here, there) or UNEXPLAINED_VERDICT
+    name = of_refused_list(board, op, there)
+    return verdict_of(name) if name else by_state(board, op, here, there) or UNEXPLAINED_VERDICT
 
 
 def rule_of(board, op, here, there):
@@ -161,6 +164,15 @@ def of_base(board, fid, a, here, there):
 
 def of_list(board, mask, base):
     return "strange base" if base >= len(board.harts) and mask == 0 else "strange bits"
+
+
+def of_refused_list(board, op, there):
+    """A list of harts that are all there was refused: it is empty, or has a hart that doesn't run. (The base -1 names those available.)"""
+    is_list = op[1] in (IPI, RFENCE) and there[:2] == ("ret", INVALID_PARAM) and op[4] != ALL
+    named = targets(op[3], op[4], len(board.harts)) if is_list else None
+    if named is None:
+        return None
+    return "skipped" if any(board.harts[h].state not in INTERRUPTIBLE for h in named) else None if named else "empty lists"
 
 
 def of_fence(board, fid, a, here, there):

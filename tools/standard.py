@@ -11,6 +11,8 @@ BREAKS, UNEXPLAINED, OPEN, OWN, UNJUDGED = "breaks", "unexplained", "open", "own
 # The lowest error number by the version of the specification.
 LOWEST = {(1, 0): -8, (2, 0): -9, (3, 0): -14}
 PMU = 0x504D55
+# How many bits a physical address has (Privileged 4.4, 4.5).
+PHYSICAL = 56
 LEGACY = range(9)
 # Extensions of later versions, with the version that has them first.
 LATER = {
@@ -66,6 +68,14 @@ def breaks(sentence, section):
     return Verdict(BREAKS, sentence, section)
 
 
+NO_ADDRESS = breaks("an address of more than 56 bits is no physical one, and is INVALID_ADDRESS", "9.1")
+
+
+def is_beyond(numbers):
+    """Whether a call starts a hart where no physical address is."""
+    return numbers[:2] == (HSM, 0) and numbers[3] >> PHYSICAL != 0
+
+
 def version_of(value):
     return value >> 24, value & 0xFFFFFF
 
@@ -77,14 +87,14 @@ def lowest_error(version, eid):
 
 
 def by_itself(numbers, there, version, is_offered):
-    """Why an answer breaks the standard, whatever the machine's state: a verdict, or None. is_offered: the firmware's
-    own probe says that it has the extension."""
+    """Why an answer breaks the standard, whatever the machine's state: a verdict, or None. is_offered: the firmware's own probe, or
+    another answer, says that it has the extension; of a probe, the one that it asks for."""
     eid, fid, a0, a1 = numbers[:4]
     if there[0] != "ret" or eid in LEGACY:
         return None
     function, error, value = FUNCTIONS.get((eid, fid)), there[1], there[2]
     if function and eid == BASE:
-        return of_base(function, fid, error, value)
+        return of_base(function, fid, error, value, is_offered)
     if not lowest_error(version, eid) <= error <= 0:
         return breaks("an error is one of the list", "3")
     if function is None:
@@ -98,11 +108,13 @@ def by_itself(numbers, there, version, is_offered):
     return of_success(numbers, value, function) if error == 0 else None
 
 
-def of_base(function, fid, error, value):
+def of_base(function, fid, error, value, is_offered):
     if error:
         return breaks("a function of Base answers no error", "4")
     if fid == 0 and (value >> 31 or not 1 <= value >> 24):
         return breaks("the version has 7 bits of the major number, 24 of the minor, and bit 31 is 0", "4.1")
+    if fid == 3 and value == 0 and is_offered:
+        return breaks("the probe of an extension that is there isn't 0", "4.4")
     return None
 
 
@@ -114,6 +126,8 @@ def of_unknown(eid, error):
 
 def of_success(numbers, value, function):
     eid, fid, a0 = numbers[:3]
+    if is_beyond(numbers):
+        return NO_ADDRESS
     if (eid, fid) == (HSM, 2) and value not in STATES:
         return breaks("a state is 0 to 6", "9.3")
     if (eid, fid) == (HSM, 3) and a0 >> 31 & 1:
@@ -145,5 +159,5 @@ def by_state(board, op, here, there):
     if (eid, fid) == (HSM, 0) and there[:2] == ("ret", 0) and a0 < len(board.harts) and board.harts[a0].state == STARTED:
         return breaks("a start of a hart that is started is ALREADY_AVAILABLE", "9.1")
     if eid in (IPI, RFENCE) and there[:2] == ("ret", INVALID_PARAM) and targets(op[3], op[4], len(board.harts)) is not None:
-        return breaks("a list of harts that are all there is valid", "3")
+        return breaks("a list of harts that run, or of all that are available, is valid", "3")
     return None

@@ -304,6 +304,8 @@ void boot_main(u64 hart, u64 opaque)
         if (status(hart_of(role)) == SUSPENDED)
             send_ipi(1UL << hart_of(role), 0);
     nowhere();
+    for (u64 until = READ(time) + 15000000; READ(time) < until;) /* a start that was accepted has its time to come */
+        ;
     SBI(SRST, 0, 0, 0xe0000000, 0); /* a reason of the implementation's */
     SBI(SRST, 0, 0, 0, 0);
 }

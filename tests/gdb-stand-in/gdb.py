@@ -55,7 +55,7 @@ def go_on():
                 raise error(stop["ends"])
             return
         elif stop["pc"] in BREAKPOINTS:
-            time_now = NOW["time"] + 1
+            time_now = stop.get("time", NOW["time"] + 1)
             NOW.clear()
             NOW.update(stop, time=time_now)
             return

@@ -5,7 +5,8 @@
    open, read and write, the one whose number is FAILED fails with the error ERROR, and none moves more than MOST bytes,
    if that is given. Each of these calls is told to the descriptor CALLS, if that is given: a letter, and the bytes moved;
    and each thread, where its start begins and ends: t and T, and how many allocations there were.
-   LENGTH is what every file's length is said to be, if that is given; where it is "none", the length can't be asked. */
+   LENGTH is what every file's length is said to be, if that is given; where it is "none", the length can't be asked. INODE
+   is what every file's number is said to be, if that is given: of two file systems it may well be the same. */
 typedef __SIZE_TYPE__ size_t;
 
 /* (no headers, which the toolchain's own compiler lacks) */
@@ -171,5 +172,9 @@ int statx(int from, const char *name, int flags, unsigned wanted, void *told)
     /* (stx_size) */
     if (!status && length)
         *(unsigned long long *)((char *)told + 40) = strtoull(length, 0, 10);
+    const char *number = getenv("INODE");
+    /* (stx_ino) */
+    if (!status && number)
+        *(unsigned long long *)((char *)told + 32) = strtoull(number, 0, 10);
     return status;
 }

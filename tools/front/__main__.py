@@ -28,7 +28,7 @@ FAILED_IO, WRONG_KIND = "sbiboard: input or output failed\n", "sbiboard: wrong k
 
 OWN_HELP = """
 The first task proves and builds its program. For run, replay and check this takes about 20 minutes on
-four processors, 26 on two; for test and explore 18 more on four. --try runs a task without proof:
+four processors, 26 on two; for test and explore 18 to 29 more on four. --try runs a task without proof:
   ./sbiboard --try test examples/orders/lost-wakeup.program
 Status 70: a program could not be built, or the checked run could not be made.
 """
@@ -115,7 +115,9 @@ def must_be_installed(program):
 def as_ended(status):
     """The status of a program that was run; where a signal ended it, that one ends the script too."""
     if status < 0:
-        signal.signal(-status, signal.SIG_DFL)
+        # (SIGKILL has no handler that could be set)
+        with contextlib.suppress(OSError):
+            signal.signal(-status, signal.SIG_DFL)
         os.kill(os.getpid(), -status)
     return status
 

@@ -77,6 +77,20 @@ def made_of(top):
     return found
 
 
+def size_of(name):
+    """The size of a crate's files, which says about how long its proofs take."""
+    folders = [os.path.join(ROOT, "crates", name, part) for part in PARTS]
+    return sum(os.lstat(os.path.join(at, it)).st_size for folder in folders for at, _, files in os.walk(folder) for it in files)
+
+
+def longest_first(names, uses):
+    """The crates in the order in which they are begun: those with the longest chain above them first, but each behind those that it stands on."""
+    chains = {}
+    for name in reversed(names):
+        chains[name] = size_of(name) + max((chains[it] for it in chains if name in uses[it]), default=0)
+    return sorted(names, key=chains.get, reverse=True)
+
+
 # The programs of an installed copy.
 INSTALLED = {PROGRAM: "sbiboard-program", TESTER: "sbiboard-tester"}
 
@@ -165,11 +179,13 @@ def end_group(run):
 
 
 def hand_on(name, source, target):
-    """Copies what was made of a crate to another copy of the sources, but for what a check kept on the way."""
-    made = os.path.join(source, "crates", name, "out")
+    """Copies what was made of a crate to another copy of the sources, but for what a check kept on the way. An older library there
+    goes first: with a file of its own beside the new ones, the toolchain would refuse it."""
+    made, copy = (os.path.join(it, "crates", name, "out") for it in (source, target))
     if os.path.isdir(made):
+        shutil.rmtree(os.path.join(copy, "rlib"), ignore_errors=True)
         unwanted = lambda at, names: [it for it in names if at == made and it == "incremental"]
-        shutil.copytree(made, os.path.join(target, "crates", name, "out"), symlinks=True, ignore=unwanted, copy_function=shutil.copy, dirs_exist_ok=True)
+        shutil.copytree(made, copy, symlinks=True, ignore=unwanted, copy_function=shutil.copy, dirs_exist_ok=True)
 
 
 class Build:
@@ -177,7 +193,7 @@ class Build:
 
     def __init__(self, top):
         self.top, self.names, self.uses, self.processors = top, made_of(top), dependencies(), processors()
-        self.left, self.begun, self.teller, self.side = list(self.names), 0, Teller(), None
+        self.left, self.begun, self.teller, self.side = longest_first(self.names, self.uses), 0, Teller(), None
         self.log = made_file("sbiboard-build.")
         self.lanes = [Lane(ROOT, self.log + ".0")]
 
@@ -292,7 +308,7 @@ def remove(path):
 
 # The minutes of a first build on four processors: of the program of `run`, of the tester behind it, and of the tester alone. On two
 # they are so many times as many.
-MINUTES, BEHIND, ALONE, ON_TWO = 20, 18, 35, 1.3
+MINUTES, BEHIND, ALONE, ON_TWO = 20, 25, 42, 1.3
 
 
 def takes(crate):

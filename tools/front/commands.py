@@ -18,7 +18,7 @@ IS_INSTALLED = os.path.exists(TEXTS)
 PROGRAM, TESTER = "sbiboard_cli", "sbiboard_test"
 
 # Where the texts below a help stand.
-OF_PROGRAM, OF_TESTER = "sbiboard/src/command_line.rt", "sbiboard_test/src/command_line.rt"
+OF_PROGRAM, OF_TESTER = "command_line/src/words.rt", "sbiboard_test/src/command_line.rt"
 
 
 def constant(source, name):

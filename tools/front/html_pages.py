@@ -38,7 +38,7 @@ class Pages:
     """The pages of one run in a folder."""
 
     def __init__(self, program, folder):
-        self.program, self.folder, self.rows, self.names = program, folder, [], {"index"}
+        self.program, self.folder, self.rows = program, folder, []
 
     def write(self, points):
         os.makedirs(self.folder, exist_ok=True)
@@ -87,11 +87,9 @@ class Pages:
         return [(actor, op, said, why if actor is not None else "the clock") for (actor, op, said, _), why in zip(steps, whys)]
 
     def named(self, name):
-        """A name that no page has, of this run or of somebody else."""
+        """A name that no page in the folder has, of this run or of somebody else, and not that of the list."""
         names = (name, *(f"{name}-{number}" for number in range(2, 1_000_000)))
-        free = next(it for it in names if it not in self.names and not os.path.lexists(os.path.join(self.folder, f"{it}.html")))
-        self.names.add(free)
-        return free
+        return next(it for it in names if it != "index" and not os.path.lexists(os.path.join(self.folder, f"{it}.html")))
 
     # ---- an order that passes
 

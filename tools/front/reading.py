@@ -116,7 +116,8 @@ class Script:
         if is_read:
             # (of a script that has no replay nothing was printed)
             status, said = self.tell(status, out, said) if out or self.command.word == "check" or self.asks(JSON) else (status, said)
-        if self.asks(EXPLAIN):
+        # (one that a signal ended says nothing of a text)
+        if self.asks(EXPLAIN) and status >= 0:
             from explain import explained
 
             told = explained(self.program, self.command, self.file, self.text)
@@ -277,7 +278,7 @@ class Points:
             status = self.stream(stdin)
             # (an older file of points says nothing of this run)
             lines = read_lines(tap) if is_read and written_at(tap) != before else []
-            said = self.behind(status, lines, folder, junit) + (self.explained(stdin) if EXPLAIN.name in self.given else "")
+            said = self.behind(status, lines, folder, junit) + (self.explained(stdin) if EXPLAIN.name in self.given and status >= 0 else "")
         if self.asked("tap") and lines and self.asked(TAP_VERSION.name) == "14":
             with open(tap, "r+b") as file:
                 file.write(TAP_14)

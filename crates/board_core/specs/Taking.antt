@@ -29,6 +29,11 @@ abbrev pub event_with : Opening → Actor → Op → Reply → Event
 event_with o actor op
     reply = record { actor = actor; op = op; reply = reply; translation = used_by_actor o [] actor op }
 
+-- the result of a step that gave this event and left this opening, or was refused
+abbrev pub taken_in : Result Event Refusal → Opening → Result Taken Refusal
+taken_in (Ok event) left = Ok (record { event = event; opening = left })
+taken_in (Err refusal) left = Err refusal
+
 -- the result of a step with this answer
 abbrev pub step_with : Opening → Actor → Op → Result Reply Refusal → Result Taken Refusal
 step_with o actor op (Ok reply) = let event = event_with o actor op reply in Ok

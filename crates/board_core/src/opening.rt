@@ -1,11 +1,12 @@
 //! The opening of a board: its state before the first event of its kept history.
-ghost use Rattle.std.specs.Prelude.{◌≡◌, ◌⊎◌, ◌+◌, ◌<◌, ◌≤◌, ◌↔◌, IfErr, IfOk, IsErrOf, Ok, [], ◌∷◌, length, None};
+ghost use Rattle.std.specs.Prelude.{◌≡◌, ◌⊎◌, ◌+◌, ◌<◌, ◌≤◌, ◌↔◌, IfErr, IfOk, IsErrOf, MatchOption, Ok, [], ◌∷◌, length, None};
 ghost use Rattle.board_core.specs.Cuts.{last_cut, opening_of};
+ghost use Rattle.board_core.specs.Inside.Packing.{machine_in};
 ghost use Rattle.board_core.specs.Inside.Stands.{opening_in};
-ghost use Rattle.board_core.specs.Taking.{event_with, refusal_at, reply_at, step_from};
+ghost use Rattle.board_core.specs.Taking.{event_with, refusal_at, reply_at, step_from, taken_in};
 ghost use Rattle.board_terms.specs.declared.config.BuildFault.TheVariants.{CutFull, NoMemory};
 ghost use Rattle.sv39.specs.Memory.{IsRam};
-ghost use Rattle.sv39.specs.Nonzero.{IsClear};
+ghost use Rattle.sv39.specs.Nonzero.{IsClear, IsNextSet};
 ghost use Rattle.board_terms.specs.Limits.{IsGood};
 ghost use Rattle.board_core.specs.Memory.{caches_of};
 ghost use Rattle.board_core.specs.Opening.{IsOpening, opening_at};
@@ -13,6 +14,7 @@ ghost use Rattle.board_core.specs.Inside.Stands.{IsKept, StandsFor};
 ghost use Rattle.rfence.specs.Opening.{called_at};
 
 use crate::board::LAST_CUT;
+use crate::packed::PackedMachine;
 use crate::view::View;
 use board_machine::{Csrs, Machine};
 use board_rules::Event;
@@ -103,6 +105,25 @@ impl Opening {
         })
     }
 
+    /// Becomes a copy of an opening of a board with the same numbers. It allocates nothing.
+    pub fn copy_from(&mut self, from: &Opening)
+        requires { self.old.config ≡ from.now.config }
+        ensures { self.new ≡ from.now }
+    {
+        self.places = from.places;
+        self.machine.copy_from(&from.machine);
+    }
+
+    /// Becomes the opening before the event at this place, with the state of a packed machine.
+    pub(crate) fn unpack(&mut self, places: u64, packed: &PackedMachine)
+        requires kept { IsKept (opening_in self.old.config places (machine_in packed.now)) [] }
+        requires stands { StandsFor (opening_in self.old.config places (machine_in packed.now)) [] (machine_in packed.now) }
+        ensures { self.new ≡ opening_in self.old.config places (machine_in packed.now) }
+    {
+        packed.unpack_into(&mut self.machine);
+        self.places = places;
+    }
+
     /// The machine, which stands for this opening and an empty history.
     pub(crate) fn into_machine(self) -> Machine
         ensures kept { IsKept self [] }
@@ -139,6 +160,49 @@ impl Opening {
             return Err(BuildFault::NoMemory);
         };
         Ok(Ok(self.taken(machine, actor, op)))
+    }
+
+    /// The same step as by `after`, with the opening that it leaves made in `left`, an opening of a board with the same
+    /// numbers. It returns the event, or the refusal. If the step is refused, or fails, `left` stays as it is. It
+    /// allocates nothing.
+    ///
+    /// # Errors
+    ///
+    /// `CutFull`: as by `after`.
+    pub fn after_in(
+        &self,
+        left: &mut Opening,
+        actor: Actor,
+        op: Op,
+    ) -> Result<Result<Event, Refusal>, BuildFault>
+        requires { left.old.config ≡ self.now.config }
+        ensures full { IsErrOf result CutFull ↔ last_cut < self.now.places + 1 }
+        ensures fault { IfErr result (λ fault. (fault ≡ CutFull) × (left.new ≡ left.old)) }
+        ensures step { IfOk result (λ step. taken_in step left.new ≡ step_from self.now actor op) }
+        ensures refused { IfOk result (λ step. IfErr step (λ _. left.new ≡ left.old)) }
+        ensures config { left.new.config ≡ self.now.config }
+    {
+        if self.places >= LAST_CUT {
+            return Err(BuildFault::CutFull);
+        }
+        if let Some(refusal) = self.refusal(actor, op) {
+            return Ok(Err(refusal));
+        }
+        Ok(Ok(self.take_in(left, actor, op)))
+    }
+
+    /// Makes the opening that a step leaves, which isn't refused, and returns the step's event.
+    fn take_in(&self, left: &mut Opening, actor: Actor, op: Op) -> Event
+        requires early { self.now.places < last_cut }
+        requires config { left.old.config ≡ self.now.config }
+        requires unrefused { refusal_at self.now actor op ≡ None }
+        ensures step { taken_in (Ok result) left.new ≡ step_from self.now actor op }
+        ensures config { left.new.config ≡ self.now.config }
+    {
+        left.machine.copy_from(&self.machine);
+        let event = self.event(&mut left.machine, actor, op);
+        left.places = self.places + 1;
+        event
     }
 
     /// The refusal of a step of one actor, on a board that continues from this opening and whose history has room.
@@ -230,12 +294,11 @@ impl Opening {
         self.machine.memory.ram.words()
     }
 
-    /// The place from which on every word of the RAM is 0.
-    pub fn ram_used(&self) -> usize
-        ensures within { result ≤ length self.now.ram }
-        ensures clear { IsClear self.now.ram result (length self.now.ram) }
+    /// The place of the first word of the RAM that isn't 0, from this place on.
+    pub fn next_set_word(&self, from: usize) -> Option<usize>
+        ensures { MatchOption result (IsClear self.now.ram from (length self.now.ram)) (IsNextSet self.now.ram from) }
     {
-        self.machine.memory.ram.used()
+        self.machine.memory.ram.next_set(from)
     }
 
     /// The number of the next fill of hart `h`'s TLB, which is the number of fills so far.

@@ -8,3 +8,4 @@ pub mod Resetting
 pub mod Targets
 pub mod Advances
 pub mod CutStanding
+pub mod Copies

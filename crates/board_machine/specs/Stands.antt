@@ -114,6 +114,15 @@ pub record IsSized (c : Config) (m : Machine) : Type 0 where
   pub calls : length m.fences.calls ≡ c.harts
   pub queues : length m.fences.queues ≡ c.harts
 
+-- the machines have as many pages, and as many harts
+pub record AreAlike (a b : Machine) : Type 0 where
+  pub harts : length a.hsm ≡ length b.hsm
+  pub deadlines : length a.interrupts.timers.deadlines ≡ length b.interrupts.timers.deadlines
+  pub pages : pages_of a.memory.ram ≡ pages_of b.memory.ram
+  pub satps : length a.memory.satps.items ≡ length b.memory.satps.items
+  pub caches : length a.memory.caches.items ≡ length b.memory.caches.items
+  pub calls : length a.fences.calls ≡ length b.fences.calls
+
 -- the situation of hart h, from the machine's components
 abbrev pub situation_in : Machine → ℕ → Situation
 situation_in m h = record {

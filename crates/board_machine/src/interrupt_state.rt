@@ -34,6 +34,16 @@ impl Interrupts {
         })
     }
 
+    /// Becomes a copy of the interrupt state of as many harts. It allocates nothing.
+    pub fn copy_from(&mut self, from: &Interrupts)
+        requires { length self.old.timers.deadlines ≡ length from.now.timers.deadlines }
+        ensures { self.new ≡ from.now }
+    {
+        self.csrs = from.csrs;
+        self.ipis = from.ipis;
+        self.timers.copy_from(&from.timers);
+    }
+
     /// sip of hart `h`: SSIP in bit 1, and STIP in bit 5.
     pub(crate) fn sip(&self, h: u64) -> u64
         requires in_range { h < length self.now.timers.deadlines }

@@ -67,6 +67,32 @@ impl Memory {
         Ok(Memory { ram, satps, caches })
     }
 
+    /// Becomes a copy of a memory with as many pages and harts. It allocates nothing.
+    pub(crate) fn copy_from(&mut self, from: &Memory)
+        requires pages { pages_of self.old.ram ≡ pages_of from.now.ram }
+        requires satps { length self.old.satps.items ≡ length from.now.satps.items }
+        requires caches { length self.old.caches.items ≡ length from.now.caches.items }
+        ensures ram { self.new.ram ≡ from.now.ram }
+        ensures satps { self.new.satps.items ≡ from.now.satps.items }
+        ensures caches { self.new.caches.items ≡ from.now.caches.items }
+        ensures pages { IsRam from.now.ram }
+    {
+        self.ram.copy_from(&from.ram);
+        self.copy_harts(&from.satps, &from.caches);
+    }
+
+    /// Makes each hart's satp and caches copies of those of as many harts. It allocates nothing.
+    pub fn copy_harts(&mut self, satps: &[Satp], caches: &[Caches])
+        requires satps { length self.old.satps.items ≡ length satps.now }
+        requires caches { length self.old.caches.items ≡ length caches.now }
+        ensures satps { self.new.satps.items ≡ satps.now }
+        ensures caches { self.new.caches.items ≡ caches.now }
+        ensures ram { self.new.ram ≡ self.old.ram }
+    {
+        self.satps.copy_from_slice(satps);
+        copy_caches(&mut self.caches, caches);
+    }
+
     /// satp of hart `h`.
     pub fn satp(&self, h: u64) -> Satp
         requires { h < length self.now.satps.items }
@@ -155,5 +181,15 @@ impl Memory {
         ensures satps { self.new.satps.items ≡ self.old.satps.items }
     {
         self.caches[h as usize].apply(flush);
+    }
+}
+
+/// Makes caches copies of as many others.
+fn copy_caches(caches: &mut Vec<Caches>, from: &[Caches])
+    requires { length caches.old.items ≡ length from.now }
+    ensures { caches.new.items ≡ from.now }
+{
+    for h in 0..from.len() {
+        caches[h].copy_from(&from[h]);
     }
 }

@@ -2,3 +2,4 @@ pub mod Tables
 pub mod Queue
 pub mod Kept
 pub mod Positions
+pub mod Copies

@@ -67,6 +67,17 @@ impl<F: Copy> Queues<F> {
         })
     }
 
+    /// Becomes a copy of the queues of as many harts. It allocates nothing.
+    pub fn copy_from(&mut self, from: &Queues<F>)
+        requires { length self.old ≡ length from.now }
+        ensures { self.new ≡ from.now }
+    {
+        for t in 0..self.rings.len() {
+            copy_ring(&mut self.rings[t], &from.rings[t]);
+        }
+        self.total = from.total;
+    }
+
     /// Appends a request to hart `t`'s queue. Its caller is another hart that has no request there, so there is room
     /// for it.
     pub fn push(&mut self, t: u64, request: Request<F>)
@@ -176,6 +187,21 @@ fn copy_of<T: Copy + Drop>(
     copy.fill_from_slice(front);
     copy.fill_from_slice(back);
     Ok(copy)
+}
+
+/// Makes a ring a copy of another one with the same capacity. It copies only items.
+fn copy_ring<T: Copy + Drop>(ring: &mut HeapCircularBuffer<T>, from: &HeapCircularBuffer<T>)
+    requires { ring.old.capacity ≡ from.now.capacity }
+    ensures { ring.new ≡ from.now }
+{
+    let count = from.len();
+    if count == 0 && ring.is_empty() {
+        return;
+    }
+    ring.clear();
+    let (front, back) = from.as_slices();
+    ring.fill_from_slice(front);
+    ring.fill_from_slice(back);
 }
 
 /// Removes the first item of a ring and returns it. A lone item is removed from the back, so the next item takes its

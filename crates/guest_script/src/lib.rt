@@ -1,6 +1,7 @@
 //! Reads scripts: a board line, and then a program, a schedule or a trace (profile).
 #![tactic(auto)]
 
+mod amo_letters;
 mod blocks;
 mod board_line;
 mod draft;

@@ -12,6 +12,7 @@ ghost use Rattle.script_lines.specs.KeptLines.{plain_line};
 ghost use Rattle.script_lines.specs.Names.{op_word, said_word};
 ghost use Rattle.script_lines.specs.Packing.{FitsKept, op_made};
 
+use crate::amo_letters::amo_by_letters;
 use crate::hart_digits::plain_hart;
 use crate::numbers::MOST_ARGUMENTS;
 use arrayvec::ArrayVec;
@@ -190,7 +191,8 @@ fn guest_by_letters(bytes: &[u8]) -> Option<OpName> {
         [b'f', ..] => Some(OpName::Fencei),
         [b's', b'i', b'p', ..] => Some(OpName::Sip),
         [b's', b'i', ..] => Some(OpName::Sie),
-        [b's', b't', ..] => Some(OpName::Store),
+        [b's', b't', _, _, _, b' ', ..] => Some(OpName::Store),
+        [b's', b't', ..] | [b'a', ..] => amo_by_letters(bytes),
         [b's', b'a', ..] => Some(OpName::Satp),
         [b's', b'f', ..] => Some(OpName::Sfence),
         [b's', ..] => Some(OpName::Sstatus),
@@ -234,6 +236,7 @@ fn plain_by_letters<'a>(
         [b'e', ..] => plain_named(OpName::Ecall, words::ECALL, bytes, numbers),
         [b'l', ..] => plain_named(OpName::Load, words::LOAD, bytes, numbers),
         [b't', ..] => plain_named(OpName::Tick, words::TICK, bytes, numbers),
+        [b'a', b'm', ..] => plain_amo(bytes, numbers),
         [b'a', ..] => plain_named(OpName::Advance, words::ADVANCE, bytes, numbers),
         [b'p', ..] => plain_named(OpName::Poll, words::POLL, bytes, numbers),
         [b'w', ..] => plain_named(OpName::Wfi, words::WFI, bytes, numbers),
@@ -242,13 +245,29 @@ fn plain_by_letters<'a>(
         [b'f', ..] => plain_named(OpName::Fencei, words::FENCEI, bytes, numbers),
         [b's', b'i', b'p', ..] => plain_named(OpName::Sip, words::SIP, bytes, numbers),
         [b's', b'i', ..] => plain_named(OpName::Sie, words::SIE, bytes, numbers),
-        [b's', b't', ..] => plain_named(OpName::Store, words::STORE, bytes, numbers),
+        [b's', b't', _, _, _, b' ', ..] => plain_named(OpName::Store, words::STORE, bytes, numbers),
+        [b's', b't', ..] => plain_amo(bytes, numbers),
         [b's', b'a', ..] => plain_named(OpName::Satp, words::SATP, bytes, numbers),
         [b's', b'f', ..] => plain_named(OpName::Sfence, words::SFENCE, bytes, numbers),
         [b's', b'e', ..] => plain_named(OpName::Serve, words::SERVE, bytes, numbers),
         [b's', ..] => plain_named(OpName::Sstatus, words::SSTATUS, bytes, numbers),
         _ => None,
     }
+}
+
+/// The same of an atomic operation, or of a store of part of a word.
+#[inline(never)]
+fn plain_amo<'a>(
+    bytes: &'a [u8],
+    numbers: &mut ArrayVec<u64, MOST_ARGUMENTS>,
+) -> Option<(OpShape, &'a [u8])>
+    requires { numbers.old.items ≡ [] }
+    ensures op { IfSome result
+        (λ found. BeginsOp (32 ∷ bytes.now) (op_made found.0 numbers.new.items) found.1.now) }
+    ensures shorter { IfSome result (λ found. length found.1.now ≤ length bytes.now) }
+{
+    let name = amo_by_letters(bytes)?;
+    plain_named(name, name.word(), bytes, numbers)
 }
 
 /// The same of one name.

@@ -78,6 +78,15 @@ impl Hsm {
         })
     }
 
+    /// Becomes a copy of the states of as many harts. It allocates nothing.
+    pub fn copy_from(&mut self, from: &Hsm)
+        requires { length self.old ≡ length from.now }
+        ensures { self.new ≡ from.now }
+    {
+        self.phases.copy_from_slice(&from.phases);
+        self.interruptible = from.interruptible;
+    }
+
     /// Starts hart `t`: it will begin at `addr` with `opaque` in a1 (SBI 9.1).
     ///
     /// # Errors

@@ -55,14 +55,20 @@ impl Ahead {
     pub fn copy(&self) -> Ahead
         ensures { result ≡ self.now }
     {
-        let mut members = ArrayVec::new();
-        let Ok(()) = members.try_extend_from_slice(&self.members) else {
+        let mut copy = Ahead::new();
+        copy.copy_from(self);
+        copy
+    }
+
+    /// Becomes a copy of other deadlines.
+    pub fn copy_from(&mut self, from: &Ahead)
+        ensures { self.new ≡ from.now }
+    {
+        self.members.clear();
+        let Ok(()) = self.members.try_extend_from_slice(&from.members) else {
             unreachable!()
         };
-        Ahead {
-            members,
-            start: self.start,
-        }
+        self.start = from.start;
     }
 
     /// Inserts a deadline.

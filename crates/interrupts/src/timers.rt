@@ -87,6 +87,17 @@ impl Timers {
         })
     }
 
+    /// Becomes a copy of the time and the deadlines of as many harts. It allocates nothing.
+    pub fn copy_from(&mut self, from: &Timers)
+        requires { length self.old.deadlines ≡ length from.now.deadlines }
+        ensures { self.new ≡ from.now }
+    {
+        self.time = from.time;
+        self.deadlines.copy_from_slice(&from.deadlines);
+        self.ahead.copy_from(&from.ahead);
+        self.due = from.due;
+    }
+
     /// Sets the deadline of hart `h`, in ticks, whatever it was (SBI 6.1). Afterwards its timer interrupt is pending if
     /// and only if the new deadline is due.
     pub fn set(&mut self, h: u64, deadline: u64)

@@ -2,11 +2,13 @@
 #![tactic(auto)]
 
 mod laws;
+mod needs;
 mod patterns;
 mod places;
 mod rules;
 
 pub use laws::marks_are_not_asked;
+pub use needs::{has_telling, see_needed};
 pub use patterns::{mark_of, matches_with};
 pub use places::{asks_of_marks, failing_step_with};
 pub use rules::{first_unfit, first_with, holds_with};

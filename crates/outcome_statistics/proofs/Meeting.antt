@@ -3,23 +3,21 @@ use Rattle.std.proofs.Common.{◌≡◌, ◌↔◌, ◌⊎◌, Bool, true, false
 use Rattle.board_core.specs.History.{Event}
 use Rattle.conditions.specs.Rule.{Rule}
 use Rattle.conditions.specs.declared.vacuity.NeedsMet.{NeedsMet}
-use Rattle.conditions.specs.Vacuity.{MeetsFirst, MeetsSecond}
 use Rattle.outcome_statistics.specs.Records.{SomeIs, Tried}
-use Rattle.outcome_statistics.specs.Met.{AreNeedsMet, EachIsMet, IsEachFitting}
+use Rattle.outcome_statistics.specs.Met.{AreNeedsMet, EachIsMet, HasFirst, HasSecond, IsEachFitting}
 
-module _ (M : List Event → Type 0) where
-  met-next : (x : Tried) (events : List Event) (tried : List Tried) (before after : Bool) → x.events ≡ events → (after ≡ true) ↔ ((before ≡ true) ⊎ M events)
-      → (before ≡ true) ↔ SomeIs (λ y. M y.events) tried → (after ≡ true) ↔ SomeIs (λ y. M y.events) (x ∷ tried)
-  met-next x events tried before after same sees has = (
-    (λ yes. elim (sees.0 yes) [
-      | inl old ↦ inr (has.0 old)
-      | inr new ↦ inl (subst M (sym same) new)
-    ]),
-    (λ some. elim some [
-      | inl new ↦ sees.1 (inr (subst M same new))
-      | inr old ↦ sees.1 (inl (has.1 old))
-    ]),
-  )
+met-next : (M : Tried → Type 0) (x : Tried) (tried : List Tried) (before after : Bool) → (after ≡ true) ↔ ((before ≡ true) ⊎ M x)
+    → (before ≡ true) ↔ SomeIs M tried → (after ≡ true) ↔ SomeIs M (x ∷ tried)
+met-next M x tried before after sees has = (
+  (λ yes. elim (sees.0 yes) [
+    | inl old ↦ inr (has.0 old)
+    | inr new ↦ inl new
+  ]),
+  (λ some. elim some [
+    | inl new ↦ sees.1 (inr new)
+    | inr old ↦ sees.1 (inl (has.1 old))
+  ]),
+)
 
 pub some-before : (P : Tried → Type 0) (more tried : List Tried) → SomeIs P tried → SomeIs P (more ++ tried)
 some-before P [] tried some = some
@@ -57,19 +55,19 @@ met-none told is = ((λ yes. let t = sym yes ∙ is in cc), (λ no. absurd no))
 pub are-met-none : (rule : Rule) (met : NeedsMet) → met.first ≡ false → met.second ≡ false → AreNeedsMet rule [] met
 are-met-none rule met first second = record { first = met-none met.first first; second = met-none met.second second }
 
-pub are-met-next : (rule : Rule) (x : Tried) (events : List Event) (tried : List Tried) (before after : NeedsMet) → x.events ≡ events
-    → (after.first ≡ true) ↔ ((before.first ≡ true) ⊎ MeetsFirst rule events) → (after.second ≡ true) ↔ ((before.second ≡ true) ⊎ MeetsSecond rule events)
+pub are-met-next : (rule : Rule) (x : Tried) (tried : List Tried) (before after : NeedsMet)
+    → (after.first ≡ true) ↔ ((before.first ≡ true) ⊎ HasFirst rule x) → (after.second ≡ true) ↔ ((before.second ≡ true) ⊎ HasSecond rule x)
     → AreNeedsMet rule tried before → AreNeedsMet rule (x ∷ tried) after
-are-met-next rule x events tried before after same first second have = record {
-  first = met-next (MeetsFirst rule) x events tried before.first after.first same first have.first;
-  second = met-next (MeetsSecond rule) x events tried before.second after.second same second have.second;
+are-met-next rule x tried before after first second have = record {
+  first = met-next (HasFirst rule) x tried before.first after.first first have.first;
+  second = met-next (HasSecond rule) x tried before.second after.second second have.second;
 }
 
 pub are-met-both : (rule : Rule) (more tried : List Tried) (one other both : NeedsMet) → (both.first ≡ true) ↔ ((one.first ≡ true) ⊎ (other.first ≡ true))
     → (both.second ≡ true) ↔ ((one.second ≡ true) ⊎ (other.second ≡ true)) → AreNeedsMet rule tried one → AreNeedsMet rule more other → AreNeedsMet rule (more ++ tried) both
 are-met-both rule more tried one other both first second here there = record {
-  first = met-both (λ x. MeetsFirst rule x.events) more tried one.first other.first both.first first here.first there.first;
-  second = met-both (λ x. MeetsSecond rule x.events) more tried one.second other.second both.second second here.second there.second;
+  first = met-both (HasFirst rule) more tried one.first other.first both.first first here.first there.first;
+  second = met-both (HasSecond rule) more tried one.second other.second both.second second here.second there.second;
 }
 
 -- the same of a condition that is known

@@ -1,5 +1,7 @@
 -- What was found of the orders of a program (profile).
-use Rattle.std.specs.Prelude.{◌≡◌, ◌≢◌, ℕ, ◌+◌, List, [], ◌∷◌, length, reverse, slice_get, Some, None}
+use Rattle.std.specs.Prelude.{◌≡◌, ◌≢◌, ℕ, ◌+◌, true, List, [], ◌∷◌, length, reverse, slice_get, Some, None}
+use Rattle.access_marks.specs.Marks.{AreMarked}
+use Rattle.board_core.specs.Opening.{opening_at}
 use Rattle.board_terms.specs.declared.config.Config.{Config}
 use Rattle.conditions.specs.Condition.{Condition}
 use Rattle.conditions.specs.Ending.{Ending}
@@ -10,6 +12,7 @@ use Rattle.guest_script.specs.Grammar.{Content}
 use Rattle.guest_programs.specs.declared.ends.End.{End}
 use Rattle.seeded_orders.specs.Orders.{IsTried}
 use Rattle.guest_programs.specs.Steps.{task_of}
+use Rattle.marked_conditions.specs.Marked.{asks_of_marks}
 use Rattle.outcome_statistics.specs.declared.ends.Ends.{Ends}
 use Rattle.outcome_statistics.specs.declared.findings.Findings.{Findings}
 use Rattle.outcome_statistics.specs.declared.findings.Judged.{Judged}
@@ -52,18 +55,27 @@ pub record AreFound (harts : ℕ) (conditions : List Condition) (tried : List Tr
   pub records : AreRecords tried found.records
   pub visits : AreVisited harts tried found.visits
 
--- The record, with its end, is that of the order that the seed and its number pick.
-abbrev pub IsOrder : Config → Content → (seed : ℕ) → Tried → Type 0
-IsOrder c content seed x = (end : End) × (x.end ≡ ending end)
-    × IsTried c (task_of content) seed x.number (reverse x.events) end
+-- some condition asks of marks
+abbrev pub AskOfMarks : List Condition → Type 0
+AskOfMarks conditions = (k : ℕ) × (condition : Condition) × (slice_get conditions k ≡ Some condition)
+    × (asks_of_marks condition.rule ≡ true)
+
+-- If some condition asks of them, the record has the marks of its accesses, on a board with these numbers.
+abbrev pub HasMarks : Config → List Condition → Tried → Type 0
+HasMarks c conditions x = AskOfMarks conditions → AreMarked (opening_at c) (reverse x.events) (reverse x.marks)
+
+-- The record, with its marks and its end, is that of the order that the seed and its number pick.
+abbrev pub IsOrder : Config → Content → List Condition → (seed : ℕ) → Tried → Type 0
+IsOrder c content conditions seed x = (end : End) × (x.end ≡ ending end)
+    × IsTried c (task_of content) seed x.number (reverse x.events) end × HasMarks c conditions x
 
 -- These are the records of the seed's orders with the numbers from `from` to below `to`, the last in front.
-abbrev pub AreOrders : Config → Content → (seed from : ℕ) → List Tried → (to : ℕ) → Type 0
-AreOrders c content seed from [] to = to ≡ from
-AreOrders c content seed from (x ∷ tried) to =
-    (to ≡ x.number + 1) × IsOrder c content seed x × AreOrders c content seed from tried x.number
+abbrev pub AreOrders : Config → Content → List Condition → (seed from : ℕ) → List Tried → (to : ℕ) → Type 0
+AreOrders c content conditions seed from [] to = to ≡ from
+AreOrders c content conditions seed from (x ∷ tried) to =
+    (to ≡ x.number + 1) × IsOrder c content conditions seed x × AreOrders c content conditions seed from tried x.number
 
 -- The findings are right for the program's orders with the numbers from `from` to below `to`, each tried once.
 abbrev pub AreFoundOf : Config → Content → List Condition → (seed from to : ℕ) → Findings → Type 0
 AreFoundOf c content conditions seed from to found =
-    (tried : List Tried) × AreOrders c content seed from tried to × AreFound c.harts conditions tried found
+    (tried : List Tried) × AreOrders c content conditions seed from tried to × AreFound c.harts conditions tried found

@@ -1,17 +1,21 @@
 -- What conditions say of many records, and tallies of it (profile).
-use Rattle.std.specs.Prelude.{◌≡◌, ◌≢◌, ◌⊎◌, ℕ, suc, ◌-◌, ◌^◌, min, List, [], ◌∷◌, Option, Some, None}
+use Rattle.std.specs.Prelude.{◌≡◌, ◌≢◌, ◌⊎◌, ℕ, suc, ◌-◌, ◌^◌, min, Bool, true, false, List, [], ◌∷◌, Option, Some, None}
+use Rattle.access_marks.specs.declared.marks.Marks.{Marks}
 use Rattle.board_core.specs.History.{Event}
 use Rattle.conditions.specs.Ending.{Ending}
 use Rattle.conditions.specs.Ending.TheVariants as endings
 use Rattle.conditions.specs.Rule.{Rule}
 use Rattle.conditions.specs.Rule.TheVariants.{Never, NeverAfter, OfSome, Each, End, Before, CanEnd}
 use Rattle.conditions.specs.Rules.{Holds}
+use Rattle.marked_conditions.specs.Marked.{HoldsWith, asks_of_marks}
 use Rattle.outcome_statistics.specs.declared.tally.Tally.{Tally}
 
--- The record of an order: its number, its accepted steps, the oldest first, and, for a program, how it ended.
+-- The record of an order: its number, its accepted steps, the oldest first, their marks, if a condition asks of them, and, for a
+-- program, how it ended.
 pub record Tried : Type 0 where
   pub number : ℕ
   pub events : List Event
+  pub marks : List Marks
   pub end : Option Ending
 
 -- The condition is about ends, and the limit cut the record off, so its end is open: the condition says nothing of it.
@@ -24,9 +28,14 @@ IsSpared (Each p) end = ⊥
 IsSpared (Before p q) end = ⊥
 IsSpared (CanEnd ends) end = ⊥
 
+-- A record meets a condition: with its marks, if the condition asks of them.
+abbrev pub HoldsOf : (asks : Bool) → Rule → Tried → Type 0
+HoldsOf false rule tried = Holds rule tried.events tried.end
+HoldsOf true rule tried = HoldsWith rule tried.events tried.marks tried.end
+
 -- A record meets a condition, or the condition says nothing of it.
 abbrev pub Meets : Rule → Tried → Type 0
-Meets rule tried = IsSpared rule tried.end ⊎ Holds rule tried.events tried.end
+Meets rule tried = IsSpared rule tried.end ⊎ HoldsOf (asks_of_marks rule) rule tried
 
 -- The record didn't end stuck: the test of a program without conditions.
 abbrev pub IsWell : Tried → Type 0

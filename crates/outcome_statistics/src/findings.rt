@@ -3,12 +3,14 @@ ghost use Rattle.std.specs.Prelude.{◌≡◌, ◌∷◌, ◌++◌, ℕ, List, [
 ghost use Rattle.conditions.specs.Condition.{Condition as Asked};
 ghost use Rattle.conditions.specs.Endings.{ending};
 ghost use Rattle.outcome_statistics.specs.Records.{Tried};
-ghost use Rattle.outcome_statistics.specs.Findings.{AreFound, EachTells};
+ghost use Rattle.outcome_statistics.specs.Findings.{AreFound, AskOfMarks, EachTells};
 
 use crate::ends::{Ends, is};
 use crate::judging::judge;
+use crate::matched::see_needs;
 use crate::tally::Tally;
 use crate::visits::Visits;
+use access_marks::Marks;
 use board_core::{Board, Event};
 use conditions::{Condition, Ending, NeedsMet, ending};
 use guest_programs::End;
@@ -63,7 +65,7 @@ impl Findings {
         })
     }
 
-    /// Adds the order of this number.
+    /// Adds the order of this number, with its marks, if a condition asks of them.
     ///
     /// # Errors
     ///
@@ -74,17 +76,26 @@ impl Findings {
         conditions: &[Condition],
         number: u64,
         board: &Board,
+        marks: &[Marks],
         end: End,
     ) -> Result<(), AllocError>
-        requires { length self.old.judged.items ≡ length conditions.now }
+        requires many { length self.old.judged.items ≡ length conditions.now }
+        requires marks { AskOfMarks conditions.now → length board.now.past ≡ length marks.now }
         ensures many { length self.new.judged.items ≡ length conditions.now }
         ensures found { OnOk result ((tried : List Tried) (x : Tried) → x.number ≡ number
-            → x.events ≡ reverse board.now.past → x.end ≡ ending end
+            → x.events ≡ reverse board.now.past → x.marks ≡ marks.now → x.end ≡ ending end
             → AreFound board.now.opening.config.harts conditions.now tried self.old
             → AreFound board.now.opening.config.harts conditions.now (x ∷ tried) self.new) }
     {
         let events = board.history();
-        judge_each(conditions, &mut self.judged, number, events, ending(end));
+        judge_each(
+            conditions,
+            &mut self.judged,
+            number,
+            events,
+            marks,
+            ending(end),
+        );
         self.well.see(number, !is(end, End::Stuck));
         self.ends.see(end);
         let kept = choices(alloc, events)?;
@@ -118,18 +129,20 @@ fn judge_each(
     judged: &mut [Judged],
     number: u64,
     events: &[Event],
+    marks: &[Marks],
     end: Option<Ending>,
 )
-    requires { length judged.old ≡ length conditions.now }
+    requires many { length judged.old ≡ length conditions.now }
+    requires marks { AskOfMarks conditions.now → length events.now ≡ length marks.now }
     ensures many { length judged.new ≡ length judged.old }
-    ensures each { (tried : List Tried) (x : Tried) → x.number ≡ number → x.events ≡ events.now → x.end ≡ end
+    ensures each { (tried : List Tried) (x : Tried) → x.number ≡ number → x.events ≡ events.now → x.marks ≡ marks.now → x.end ≡ end
         → EachTells conditions.now tried judged.old → EachTells conditions.now (x ∷ tried) judged.new }
 {
     for i in 0..conditions.len() {
         let rule = &conditions[i].rule;
         let of_it = &mut judged[i];
-        judge(rule, &mut of_it.tally, number, events, end);
-        of_it.met.see(rule, events);
+        judge(rule, &mut of_it.tally, number, events, marks, end);
+        see_needs(&mut of_it.met, rule, events, marks);
     }
 }
 

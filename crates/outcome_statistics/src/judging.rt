@@ -1,27 +1,52 @@
 //! A record, judged by a condition.
-ghost use Rattle.std.specs.Prelude.{◌≡◌, ◌↔◌, ◌∷◌, List, MatchOption, Some, true};
+ghost use Rattle.std.specs.Prelude.{◌≡◌, ◌↔◌, ◌∷◌, List, MatchOption, Some, length, true};
 ghost use Rattle.conditions.specs.Rule.TheVariants.{NeverAfter};
+ghost use Rattle.marked_conditions.specs.Marked.{asks_of_marks};
 ghost use Rattle.outcome_statistics.specs.Failing.{IsFailingStep, IsLast};
-ghost use Rattle.outcome_statistics.specs.Records.{IsSo, IsSpared, Meets, Tells, Tried};
+ghost use Rattle.outcome_statistics.specs.Records.{HoldsOf, IsSo, IsSpared, Meets, Tells, Tried};
 
 use crate::tally::Tally;
+use access_marks::Marks;
 use board_core::Event;
 use conditions::{Ending, Pattern, Rule, first_from, first_other_reply, holds};
+use marked_conditions::{asks_of_marks, holds_with};
 
-/// Judges a record of this number by a condition.
-pub fn judge(rule: &Rule, tally: &mut Tally, number: u64, events: &[Event], end: Option<Ending>)
-    ensures { (tried : List Tried) (x : Tried) → x.number ≡ number → x.events ≡ events.now → x.end ≡ end
+/// Judges a record of this number by a condition. Its marks count if the condition asks of them.
+pub fn judge(
+    rule: &Rule,
+    tally: &mut Tally,
+    number: u64,
+    events: &[Event],
+    marks: &[Marks],
+    end: Option<Ending>,
+)
+    requires { asks_of_marks rule.now ≡ true → length events.now ≡ length marks.now }
+    ensures { (tried : List Tried) (x : Tried) → x.number ≡ number → x.events ≡ events.now → x.marks ≡ marks.now → x.end ≡ end
         → Tells (IsSo (Some rule.now)) tried tally.old → Tells (IsSo (Some rule.now)) (x ∷ tried) tally.new }
 {
-    let holds = meets(rule, events, end);
+    let holds = meets(rule, events, marks, end);
     tally.see(number, holds);
 }
 
-/// Whether a record meets a condition.
-pub fn meets(rule: &Rule, events: &[Event], end: Option<Ending>) -> bool
-    ensures { (x : Tried) → x.events ≡ events.now → x.end ≡ end → (result ≡ true) ↔ Meets rule.now x }
+/// Whether a record meets a condition. Its marks count if the condition asks of them.
+pub fn meets(rule: &Rule, events: &[Event], marks: &[Marks], end: Option<Ending>) -> bool
+    requires { asks_of_marks rule.now ≡ true → length events.now ≡ length marks.now }
+    ensures { (x : Tried) → x.events ≡ events.now → x.marks ≡ marks.now → x.end ≡ end → (result ≡ true) ↔ Meets rule.now x }
 {
-    is_spared(rule, end) || holds(rule, events, end)
+    is_spared(rule, end) || holds_of(rule, events, marks, end)
+}
+
+/// Whether a record meets a condition that says something of it.
+fn holds_of(rule: &Rule, events: &[Event], marks: &[Marks], end: Option<Ending>) -> bool
+    requires { asks_of_marks rule.now ≡ true → length events.now ≡ length marks.now }
+    ensures { (x : Tried) → x.events ≡ events.now → x.marks ≡ marks.now → x.end ≡ end
+        → (result ≡ true) ↔ HoldsOf (asks_of_marks rule.now) rule.now x }
+{
+    if asks_of_marks(rule) {
+        holds_with(rule, events, marks, end)
+    } else {
+        holds(rule, events, end)
+    }
 }
 
 /// Whether a condition on ends says nothing of a record, since the limit cut it off.

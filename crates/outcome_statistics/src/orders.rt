@@ -9,6 +9,7 @@ ghost use Rattle.outcome_statistics.specs.Findings.{AreFoundOf};
 
 use crate::batch::Batch;
 use crate::findings::Findings;
+use crate::marking::marks_asked;
 use board_core::Board;
 use guest_programs::{Program, RunFault, new_board, program_in};
 use seeded_orders::try_order_on;
@@ -56,7 +57,8 @@ fn each_tried(
     let mut found = Findings::new(alloc, batch.conditions.len())?;
     for order in batch.from..batch.to {
         let end = try_order_on(alloc, program, program.ticks, board, batch.seed, order)?;
-        found.see(alloc, batch.conditions, order, board, end)?;
+        let marks = marks_asked(alloc, batch.conditions, board)?;
+        found.see(alloc, batch.conditions, order, board, &marks, end)?;
     }
     Ok(found)
 }

@@ -15,3 +15,4 @@ pub mod Remote
 pub mod Needs
 pub mod Bounds
 pub mod Seams
+pub mod Copies

@@ -86,6 +86,18 @@ impl<F: Copy> Fences<F> {
         })
     }
 
+    /// Becomes a copy of the fences of as many harts. It allocates nothing.
+    pub fn copy_from(&mut self, from: &Fences<F>)
+        requires { length self.old.calls ≡ length from.now.calls }
+        ensures { self.new ≡ from.now }
+    {
+        self.queues.copy_from(&from.queues);
+        self.calls.copy_from_slice(&from.calls);
+        self.opened.copy_from_slice(&from.opened);
+        self.asked = from.asked;
+        self.applied = from.applied;
+    }
+
     /// Hart `c`, which is in no call, asks these harts for a fence, by the event at this place (SBI 8). At the hart
     /// itself, if it is one of them, the fence is applied at once; at each other hart it waits (profile). The hart is
     /// now inside its call. The place is later than those of all open calls.

@@ -71,6 +71,16 @@ impl<F: Copy> Pending<F> {
         })
     }
 
+    /// Becomes a copy of what waits at as many harts. It allocates nothing.
+    pub fn copy_from(&mut self, from: &Pending<F>)
+        requires { length self.old ≡ length from.now }
+        ensures { self.new ≡ from.now }
+    {
+        self.callers.copy_from(&from.callers);
+        self.fences.copy_from_slice(&from.fences);
+        self.idle = from.idle;
+    }
+
     /// Appends a request to the queue of each target. No other request of its caller waits anywhere.
     pub fn ask(&mut self, targets: HartSet, request: Request<F>)
         requires caller { request.from < length self.old }

@@ -1,16 +1,5 @@
-pub mod Asked
-pub mod Checked
-pub mod Comments
-pub mod FileWords
+pub mod EndLines
 pub mod Kept
-pub mod RunWords
-pub mod ReadBack
-pub mod ReadLines
-pub mod Replayed
 pub mod Ran
 pub mod Recorded
-pub mod Retraced
 pub mod RunAccepted
-pub mod Stopped
-pub mod Taken
-pub mod UpTo

@@ -15,12 +15,12 @@ use Rattle.guest_programs.specs.declared.ends.End.TheVariants.{GateLimit, Off, H
 use Rattle.guest_programs.specs.Ends.{IsEnd}
 use Rattle.guest_programs.specs.Programs.{AreFirst, blocks_of, ticks_of}
 use Rattle.hart_threads.specs.Shares.{IsRun}
-use Rattle.sbiboard.specs.declared.outcome.Outcome.TheVariants.{Good}
-use Rattle.sbiboard.specs.Check.{agrees_text, EndsCheck}
+use Rattle.script_tasks.specs.declared.outcome.Outcome.TheVariants.{Good}
+use Rattle.script_tasks.specs.Check.{agrees_text, EndsCheck}
 use Rattle.sbiboard.specs.Inside.Fitting.{EventFits}
-use Rattle.sbiboard.specs.Running.{Writes}
+use Rattle.script_tasks.specs.Running.{Writes}
 use Rattle.sbiboard.specs.Threaded.{EndsRun, Tasks, outcome_of, programmed, run_text}
-use Rattle.sbiboard.proofs.ReadLines.{config_read}
+use Rattle.script_tasks.proofs.ReadLines.{config_read}
 use Rattle.sbiboard.proofs.RunAccepted.{run_accepted}
 
 abbrev tasks : Content → Tasks

@@ -24,14 +24,15 @@ use Rattle.guest_script.specs.Grammar.{most_bytes}
 use Rattle.guest_programs.specs.declared.ends.End.{End}
 use Rattle.monitor.specs.Table.{table}
 use Rattle.printed_lines.specs.Words.{board_line_words, event_words, as_line}
-use Rattle.sbiboard.specs.declared.outcome.Outcome.TheVariants.{Good}
-use Rattle.sbiboard.specs.Check.{AllAgree, EndsCheck, agrees_text}
+use Rattle.script_tasks.specs.declared.outcome.Outcome.TheVariants.{Good}
+use Rattle.script_tasks.specs.Check.{AllAgree, EndsCheck, agrees_text}
 use Rattle.sbiboard.specs.Inside.Fitting.{EventFits}
-use Rattle.sbiboard.specs.PrintedScripts.{Answered, AreComments, FitsActor, FitsAnswered, FitsConfig, printed, trace_lines, trace_of, answered_words}
+use Rattle.script_tasks.specs.PrintedScripts.{Answered, AreComments, FitsActor, FitsAnswered, FitsConfig, printed, trace_lines, trace_of, answered_words}
 use Rattle.sbiboard.specs.Threaded.{end_line, events_text, run_text}
-use Rattle.sbiboard.proofs.Comments.{end_passes, table_passes}
-use Rattle.sbiboard.proofs.ReadBack.{trace_read_back}
-use Rattle.sbiboard.proofs.Retraced.{traced_of}
+use Rattle.sbiboard.proofs.EndLines.{end_passes}
+use Rattle.script_tasks.proofs.Comments.{table_passes}
+use Rattle.script_tasks.proofs.ReadBack.{trace_read_back}
+use Rattle.script_tasks.proofs.Retraced.{traced_of}
 
 -- ---- the events fit lines of a trace
 

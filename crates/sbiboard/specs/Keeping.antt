@@ -5,8 +5,8 @@ use Rattle.printed_lines.specs.Words.{event_words, as_line}
 use Rattle.sbiboard.specs.declared.keeping.KeepFault.{KeepFault}
 use Rattle.sbiboard.specs.declared.keeping.KeepFault.TheVariants.{Failed, NoMemory as NoRoom}
 use Rattle.sbiboard.specs.declared.keeping.Step.{Step}
-use Rattle.sbiboard.specs.declared.outcome.Outcome.{Outcome}
-use Rattle.sbiboard.specs.declared.outcome.Outcome.TheVariants.{Io, NoMemory}
+use Rattle.script_tasks.specs.declared.outcome.Outcome.{Outcome}
+use Rattle.script_tasks.specs.declared.outcome.Outcome.TheVariants.{Io, NoMemory}
 
 -- the line of a step that was accepted
 abbrev pub accepted_line : Step → List ℕ

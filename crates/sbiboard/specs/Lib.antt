@@ -1,11 +1,3 @@
-pub mod Check
-pub mod CommandLine
 pub mod Keeping
-pub mod Outcomes
-pub mod PrintedScripts
-pub mod Replay
-pub mod Running
-pub mod Sources
 pub mod Threaded
-pub mod Devices
 pub mod Inside

@@ -16,10 +16,10 @@ use Rattle.guest_programs.specs.Programs.{AreFirst}
 use Rattle.hart_threads.specs.Shares.{IsRun}
 use Rattle.monitor.specs.Table.{table}
 use Rattle.printed_lines.specs.Words.{board_line_words, event_words, as_line}
-use Rattle.sbiboard.specs.declared.outcome.Outcome.{Outcome}
-use Rattle.sbiboard.specs.declared.outcome.Outcome.TheVariants.{Good, HistoryFull, Stuck}
-use Rattle.sbiboard.specs.Check.{EndsCheck, agrees_text}
-use Rattle.sbiboard.specs.Running.{EndsAs}
+use Rattle.script_tasks.specs.declared.outcome.Outcome.{Outcome}
+use Rattle.script_tasks.specs.declared.outcome.Outcome.TheVariants.{Good, HistoryFull, Stuck}
+use Rattle.script_tasks.specs.Check.{EndsCheck, agrees_text}
+use Rattle.script_tasks.specs.Running.{EndsAs}
 
 -- what a run takes of a program: what its guests do by their blocks, and the clock's ticks
 pub record Tasks : Type 0 where

@@ -6,20 +6,16 @@ ghost use Rattle.guest_script.specs.Grammar.{Reads, content, written};
 ghost use Rattle.printed_lines.specs.Sinks.{Puts};
 ghost use Rattle.sbiboard.specs.Inside.Fitting.{EventFits};
 ghost use Rattle.sbiboard.specs.Keeping.{reported_as};
-ghost use Rattle.sbiboard.specs.Running.{CountsEnd, EndsFlushed, EndsRead, Writes};
-ghost use Rattle.sbiboard.specs.Sources.{ReadsUpTo, read_limit};
+ghost use Rattle.script_tasks.specs.Running.{CountsEnd, EndsFlushed, EndsRead, Writes};
+ghost use Rattle.script_tasks.specs.Sources.{ReadsUpTo, read_limit};
 ghost use Rattle.sbiboard.specs.Threaded.{EndsRun, end_line, end_name, events_text, open_lets, outcome_of, programmed, run_text};
 
-use crate::device::{Device, Source, read_script};
-use crate::ending::NoOutcome;
-use crate::fitting::{answer_fits, op_fits};
 use crate::keeping::{KeepFault, Keeper};
-use crate::outcome::Outcome;
-use crate::running::unread;
 use board_core::Event;
 use guest_script::{Body, Script};
 use hart_threads::{End, Gate, Open, RunEnd, RunFault, run};
 use monitor::{Failed, Page, Sink, print, print_head, write_all};
+use script_tasks::{Device, NoOutcome, Outcome, Source, answer_fits, op_fits, read_script, unread};
 use std::fs;
 use std::rt::Files;
 use std::sync::Wait;
@@ -104,16 +100,38 @@ where
         (W.failures writer.old) (W.failures writer.new)) }
     ensures unmade { OnErr result (writer.new ≡ writer.old) }
 {
-    let script = match read_script(rt.alloc(), reader) {
-        Ok(script) => script,
-        Err(fault) => return Ok(unkept(unread(fault))),
-    };
+    match read_script(rt.alloc(), reader) {
+        Ok(script) => keep_read(rt, &script, writer, path),
+        Err(fault) => Ok(unkept(unread(fault))),
+    }
+}
+
+/// Runs a script, if it is a program, and keeps its record, if its board's numbers are good.
+///
+/// # Errors
+///
+/// The file can't be made, and nothing was run or written.
+fn keep_read<W: Sink, R: AllocGlobal + Files + Threads + Wait + Sync>(
+    rt: &R,
+    script: &Script,
+    writer: &mut W,
+    path: &str,
+) -> Result<KeptRun, NoOutcome>
+where
+    R::File: Send,
+    requires { W.failures writer.old < 2 ^ 63 }
+    ensures writes { IfOk result (λ run. (bytes : List ℕ) → Reads bytes (written script.now)
+        → Writes (EndsRun open_lets bytes) run.outcome (W.written writer.old) (W.written writer.new)) }
+    ensures flushed { IfOk result (λ run. EndsFlushed run.outcome (W.is_flushed writer.new)) }
+    ensures failed { IfOk result (λ run. CountsEnd run.outcome 0 0 (W.failures writer.old) (W.failures writer.new)) }
+    ensures unmade { OnErr result (writer.new ≡ writer.old) }
+{
     if !is_program(&script.body) || !script.config.is_good() {
-        return Ok(unkept(run_read(rt, &script, writer, &Open)));
+        return Ok(unkept(run_read(rt, script, writer, &Open)));
     }
     let file = Device::new(fs::create(rt, path)?);
     let keeper = Keeper::new(rt, rt.alloc(), &script.config, file);
-    let outcome = run_read(rt, &script, writer, &keeper);
+    let outcome = run_read(rt, script, writer, &keeper);
     Ok(KeptRun {
         outcome,
         kept: keeper.met(),

@@ -2,9 +2,11 @@
 //! standard output, passes them to the library, and exits with the status that the library returns.
 #![tactic(auto)]
 
-use hart_threads::Open;
+ghost use Rattle.std.specs.Prelude.{◌^◌, ◌<◌};
+
 use sbiboard::{
-    Device, NoOutcome, Outcome, Subcommand, check, command, ended, replay, run_and_keep, run_script,
+    Device, NoOutcome, Open, Outcome, Sink, Source, Subcommand, check, command, ended, replay,
+    run_and_keep, run_script,
 };
 use std::fs::OpenFile;
 use std::io::{BufWriter, ErrorKind};
@@ -18,10 +20,11 @@ use std::{env, fs, io};
 const BUFFER: usize = 65_536;
 
 fn main(rt: HostRuntime) -> ExitCode {
-    ExitCode::from(ended(&rt, run(&rt)))
+    ExitCode::from(ended(&rt, asked(&rt)))
 }
 
-fn run<R: AllocGlobal + Env + Files + Print + Threads + Wait + Sync>(
+/// Does what the command line asks for.
+fn asked<R: AllocGlobal + Env + Files + Print + Threads + Wait + Sync>(
     rt: &R,
 ) -> Result<Outcome, NoOutcome>
 where
@@ -61,15 +64,44 @@ where
     let mut reader = Device::expecting(script, expected);
     let output = BufWriter::with_capacity(rt.alloc(), BUFFER, io::writer(rt))?;
     let mut writer = Device::new(output);
-    Ok(match task {
-        Subcommand::Run {
-            keep: Some(path),
-            ..
-        } => run_and_keep(rt, &mut reader, &mut writer, path)?.reported(),
-        Subcommand::Run { .. } => run_script(rt, &mut reader, &mut writer, &Open),
-        Subcommand::Replay(_) => replay(rt.alloc(), &mut reader, &mut writer),
-        Subcommand::Check(_) => check(rt.alloc(), &mut reader, &mut writer),
-    })
+    done_between(rt, task, &mut reader, &mut writer)
+}
+
+/// Does a task between a source and a sink.
+fn done_between<S: Source, W: Sink, R: AllocGlobal + Files + Threads + Wait + Sync>(
+    rt: &R,
+    task: Subcommand<'_>,
+    reader: &mut S,
+    writer: &mut W,
+) -> Result<Outcome, NoOutcome>
+where
+    R::File: Send,
+    requires reader_counts { S.failures reader.old < 2 ^ 63 }
+    requires writer_counts { W.failures writer.old < 2 ^ 63 }
+{
+    match task {
+        Subcommand::Run { keep, .. } => run(rt, keep, reader, writer),
+        Subcommand::Replay(_) => Ok(replay(rt.alloc(), reader, writer)),
+        Subcommand::Check(_) => Ok(check(rt.alloc(), reader, writer)),
+    }
+}
+
+/// Runs a program, and keeps its record in the file of this name, if there is one.
+fn run<S: Source, W: Sink, R: AllocGlobal + Files + Threads + Wait + Sync>(
+    rt: &R,
+    keep: Option<&str>,
+    reader: &mut S,
+    writer: &mut W,
+) -> Result<Outcome, NoOutcome>
+where
+    R::File: Send,
+    requires reader_counts { S.failures reader.old < 2 ^ 63 }
+    requires writer_counts { W.failures writer.old < 2 ^ 63 }
+{
+    match keep {
+        Some(path) => Ok(run_and_keep(rt, reader, writer, path)?.reported()),
+        None => Ok(run_script(rt, reader, writer, &Open)),
+    }
 }
 
 /// Whether a path is that of an open file, which a record kept there would overwrite.

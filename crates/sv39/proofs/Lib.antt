@@ -5,3 +5,4 @@ pub mod MapsLaws
 pub mod PageLaw
 pub mod WorkedMaps
 pub mod ClearWords
+pub mod Marks

@@ -3,6 +3,7 @@
 
 mod cause;
 mod entry;
+mod lines;
 mod nonzero;
 mod packed;
 mod page;
@@ -12,7 +13,6 @@ mod ram;
 mod satp;
 
 pub use cause::{Cause, Kind};
-pub use nonzero::next_set;
 pub use packed::PackedRam;
 pub use page::{Leaf, Level, PAGE_BYTES};
 pub use page_tables::{maps_is_the_rule, one_leaf_for_a_page, walk};

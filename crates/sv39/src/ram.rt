@@ -1,8 +1,10 @@
 //! The RAM.
-ghost use Rattle.std.specs.Prelude.{◌≡◌, ◌≤◌, ◌+◌, ◌-◌, ◌/◌, ◌++◌, IfOk, IsTrue, Some, is_some, length, replicate, vec_capacity, vec_len};
-ghost use Rattle.sv39.specs.Memory.{IsRam, is_in_ram, pages_of, word_in, written, zero_memory};
-ghost use Rattle.sv39.specs.Nonzero.{IsClear};
+ghost use Rattle.std.specs.Prelude.{◌≡◌, ◌<◌, ◌≤◌, ◌+◌, ◌-◌, ◌/◌, ◌++◌, IfOk, IsTrue, MatchOption, Some, is_some, length, replicate, slice_set, vec_capacity, vec_len};
+ghost use Rattle.sv39.specs.Memory.{IsRam, is_in_ram, pages_of, word_in, written, zero_memory, zero_words};
+ghost use Rattle.sv39.specs.Nonzero.{IsClear, IsNextSet};
 
+use crate::lines::{LINE_WORDS, clear_marked, copy_marked, mark};
+use crate::nonzero::next_set;
 use std::alloc::{AllocError, Global};
 use std::marker::Model;
 
@@ -16,21 +18,21 @@ pub const PAGE_WORDS: usize = 512;
 #[derive(Debug, Drop)]
 pub struct Ram {
     words: Vec<u64>,
-    // (from this place on every word is 0: most boards use only the beginning of their RAM)
-    used: usize,
+    // (a bit for each line of 8 words: if it is 0, the line's words are 0)
+    marks: Vec<u64>,
 }
 
 impl Model for Ram {
-    ghost use Rattle.std.specs.Prelude.{◌≡◌, ◌≤◌, List, ℕ, length, vec_capacity, vec_len};
+    ghost use Rattle.std.specs.Prelude.{◌≡◌, ◌*◌, List, ℕ, length, vec_capacity, vec_len};
     ghost use Rattle.sv39.specs.Memory.{IsRam};
-    ghost use Rattle.sv39.specs.Nonzero.{IsClear};
+    ghost use Rattle.sv39.specs.Inside.Lines.{AreMarked};
 
     ghost Value = { List ℕ };
 
     ghost view = { λ ram. ram.words.items };
 
     ghost invariant = { λ ram. IsRam ram.words.items × (vec_capacity ram.words ≡ vec_len ram.words)
-        × (ram.used ≤ length ram.words.items) × IsClear ram.words.items ram.used (length ram.words.items) };
+        × (length ram.words.items ≡ 512 * length ram.marks.items) × AreMarked ram.words.items ram.marks.items };
 }
 
 impl Ram {
@@ -46,19 +48,23 @@ impl Ram {
         ensures pages { IfOk result (λ ram. pages_of ram ≡ pages) }
         ensures ram { IfOk result IsRam }
     {
-        let words = zeros(alloc, PAGE_WORDS * pages as usize)?;
-        Ok(Ram { words, used: 0 })
+        Ram::blank(alloc, pages as usize)
     }
 
-    /// The RAM of these words, which have no spare capacity. From the place `used` on every word is 0.
-    pub(crate) fn of(words: Vec<u64>, used: usize) -> Ram
-        requires ram { IsRam words.items }
-        requires room { vec_capacity words ≡ vec_len words }
-        requires within { used ≤ length words.items }
-        requires clear { IsClear words.items used (length words.items) }
-        ensures { result ≡ words.items }
+    /// A RAM of so many pages, as the list of its words.
+    ///
+    /// # Errors
+    ///
+    /// Out of memory.
+    pub(crate) fn blank(alloc: Global, pages: usize) -> Result<Ram, AllocError>
+        requires some { 1 ≤ pages }
+        requires limit { pages ≤ 256 }
+        ensures words { IfOk result (λ ram. ram ≡ zero_words pages) }
+        ensures ram { IfOk result IsRam }
     {
-        Ram { words, used }
+        let words = zeros(alloc, PAGE_WORDS * pages)?;
+        let marks = zeros(alloc, pages)?;
+        Ok(Ram { words, marks })
     }
 
     /// A copy.
@@ -70,13 +76,20 @@ impl Ram {
         ensures copy { IfOk result (λ copy. copy ≡ self.now) }
         ensures pages { IsRam self.now }
     {
-        let mut words = Vec::with_capacity(alloc, self.words.len())?;
-        put_reserved(&mut words, &self.words[..self.used]);
-        put_zeros(&mut words, self.words.len() - self.used);
-        Ok(Ram {
-            words,
-            used: self.used,
-        })
+        let mut copy = Ram::blank(alloc, self.marks.len())?;
+        copy.copy_from(self);
+        Ok(copy)
+    }
+
+    /// Becomes a copy of a RAM with as many pages. It allocates nothing, and visits only lines that were written in one
+    /// of the two.
+    pub fn copy_from(&mut self, from: &Ram)
+        requires { pages_of self.old ≡ pages_of from.now }
+        ensures copy { self.new ≡ from.now }
+        ensures pages { IsRam from.now }
+    {
+        copy_marked(&mut self.words, &self.marks, &from.words, &from.marks);
+        self.marks.copy_from_slice(&from.marks);
     }
 
     /// The words, from the RAM's first address on.
@@ -87,12 +100,11 @@ impl Ram {
         &self.words
     }
 
-    /// The place from which on every word is 0. (Most boards use only the beginning of their RAM.)
-    pub fn used(&self) -> usize
-        ensures within { result ≤ length self.now }
-        ensures clear { IsClear self.now result (length self.now) }
+    /// The place of the first word that isn't 0, from this place on.
+    pub fn next_set(&self, from: usize) -> Option<usize>
+        ensures { MatchOption result (IsClear self.now from (length self.now)) (IsNextSet self.now from) }
     {
-        self.used
+        next_set(&self.words, &self.marks, from)
     }
 
     /// Whether the RAM has a word at the physical address: it lies in the RAM and is aligned to 8.
@@ -123,8 +135,17 @@ impl Ram {
         ensures pages { pages_of self.new ≡ pages_of self.old }
     {
         let there = word_place(at);
-        self.words[there] = value;
-        self.used = self.used.max(there + 1);
+        self.put(there, value);
+    }
+
+    /// Writes the word at a place.
+    #[inline(always)]
+    pub(crate) fn put(&mut self, place: usize, value: u64)
+        requires { place < length self.old }
+        ensures { self.new ≡ slice_set self.old place value }
+    {
+        self.words[place] = value;
+        mark(&mut self.marks, place / LINE_WORDS);
     }
 
     /// Every word becomes 0.
@@ -132,8 +153,16 @@ impl Ram {
         ensures words { word_in self.new ≡ zero_memory (pages_of self.old) }
         ensures pages { pages_of self.new ≡ pages_of self.old }
     {
-        self.words.fill(0);
-        self.used = 0;
+        self.wipe();
+    }
+
+    /// Every word becomes 0, as a list.
+    pub(crate) fn wipe(&mut self)
+        ensures words { self.new ≡ replicate (length self.old) 0 }
+        ensures ram { IsRam self.old }
+    {
+        clear_marked(&mut self.words, &self.marks);
+        self.marks.fill(0);
     }
 }
 
@@ -142,24 +171,13 @@ impl Ram {
 /// # Errors
 ///
 /// Out of memory.
-pub(crate) fn zeros(alloc: Global, count: usize) -> Result<Vec<u64>, AllocError>
+fn zeros(alloc: Global, count: usize) -> Result<Vec<u64>, AllocError>
     ensures items { IfOk result (λ words. words.items ≡ replicate count 0) }
     ensures room { IfOk result (λ words. vec_capacity words ≡ count) }
 {
     let mut words = Vec::with_capacity(alloc, count)?;
     put_zeros(&mut words, count);
     Ok(words)
-}
-
-/// Appends words, for which there is room.
-fn put_reserved(words: &mut Vec<u64>, more: &[u64])
-    requires { vec_len words.old + length more.now ≤ vec_capacity words.old }
-    ensures items { words.new.items ≡ words.old.items ++ more.now }
-    ensures room { vec_capacity words.new ≡ vec_capacity words.old }
-{
-    for word in more {
-        words.push_reserved(*word);
-    }
 }
 
 /// Appends so many words that are 0, for which there is room.

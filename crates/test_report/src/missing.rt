@@ -4,7 +4,7 @@ ghost use Rattle.test_report.specs.Missing.{IsLacking, Needs};
 
 use crate::records::event_line;
 use board_core::{Event, Op};
-use conditions::{Condition, NeedsMet, Pattern, Rule, fits_step};
+use conditions::{Condition, Item, Name, NeedsMet, Pattern, Rule, fits_step};
 use diagnostics::Case;
 use outcome_statistics::{Deed, Visits};
 use std::alloc::{AllocError, Global};
@@ -43,6 +43,8 @@ pub struct Missing {
 struct Others {
     /// Such a step has another reply.
     has_other_reply: bool,
+    /// The pattern has a mark, not a reply.
+    is_marked: bool,
     /// What the same actors do.
     instead: Vec<Instead>,
 }
@@ -67,7 +69,13 @@ impl Missing {
             return Ok(None);
         };
         Ok(Some(Missing {
-            said: case.pattern_at(alloc, condition.line, is_second, with_reply)?,
+            said: said_of(
+                alloc,
+                case,
+                condition.line,
+                is_second,
+                with_reply || has_mark(p),
+            )?,
             is_second,
             others: Others::of(alloc, case, p, visits)?,
         }))
@@ -84,6 +92,7 @@ impl Others {
     ) -> Result<Others, AllocError> {
         let mut found = Others {
             has_other_reply: false,
+            is_marked: has_mark(p),
             instead: Vec::new(alloc),
         };
         let like = of_its_kind(alloc, p)?;
@@ -168,7 +177,7 @@ impl Instead {
 impl fmt::Display for Missing {
     fn fmt<W: fmt::Write>(&self, f: &mut fmt::Formatter<W>) -> fmt::Result {
         if self.others.has_other_reply {
-            return write!(f, "; such a step has another reply");
+            return write!(f, "{}", why_other(self.others.is_marked));
         }
         for (at, instead) in self.others.instead.iter().enumerate() {
             write!(f, "{}", if at == 0 { "; " } else { ", " })?;
@@ -180,6 +189,15 @@ impl fmt::Display for Missing {
             write_used(f, &instead.used)?;
         }
         Ok(())
+    }
+}
+
+/// Why a step isn't the needed one, though its actor and operation are.
+fn why_other(is_marked: bool) -> &'static str {
+    if is_marked {
+        "; such a step isn't translated, and neither fetches nor faults"
+    } else {
+        "; such a step has another reply"
     }
 }
 
@@ -239,6 +257,26 @@ fn sought(rule: &Rule, is_second: bool) -> Option<(&Pattern, bool)>
             _,
         ) => Some((p, false)),
     }
+}
+
+/// Whether a pattern has a mark in its reply's place.
+fn has_mark(p: &Pattern) -> bool {
+    matches!(p.reply.first(), Some(Some(Item::Word(Name::Mark(_)))))
+}
+
+/// A pattern's text in a condition; `_` for any step.
+fn said_of(
+    alloc: Global,
+    case: &Case<'_>,
+    line: u64,
+    is_second: bool,
+    with_reply: bool,
+) -> Result<String, AllocError> {
+    let said = case.pattern_at(alloc, line, is_second, with_reply)?;
+    if said.is_empty() {
+        return String::from_str(alloc, "_");
+    }
+    Ok(said)
 }
 
 /// A pattern's actor and operation alone.

@@ -20,6 +20,8 @@ pub enum Unjudged {
     TooMany(u64),
     /// It asks of marks, and the record has more events than a board's history.
     NoMarks,
+    /// It asks of marks, which only records tell, and no record was made.
+    Untold,
 }
 
 impl fmt::Display for Unjudged {
@@ -33,6 +35,10 @@ impl fmt::Display for Unjudged {
                 write!(f, "more than {most} states, none of those seen breaks it")
             }
             Unjudged::NoMarks => write!(f, "more than 1,000,000 events"),
+            Unjudged::Untold => write!(
+                f,
+                "only records tell marks, and explore makes none: use test"
+            ),
         }
     }
 }

@@ -96,8 +96,8 @@ by-tried : (options : Options) (bytes : List ℕ) (file : FileReport) (it : IsFo
 by-tried options bytes file it tried each =
     let harts : ℕ = it.script.config.harts in
     let is_cut : Bool = it.judged.is_cut in
-    let Orders : List Tried → Type 0 = AreTriedOf it.script.config (content it.script.body) options.seed options.orders is_cut in
-    let Runs : List Tried → Type 0 = AreRunsOf it.script.config (content it.script.body) options.runs is_cut in
+    let Orders : List Tried → Type 0 = AreTriedOf it.script.config (content it.script.body) it.conditions options.seed options.orders is_cut in
+    let Runs : List Tried → Type 0 = AreRunsOf it.script.config (content it.script.body) it.conditions options.runs is_cut in
     let fresh = no-points tried.begun tried.none in
     let first : EachIsHolds (verdicts tried.first) =
     first-holds Runs harts is_cut it.conditions tried.first it.judged options.runs tried.no_runs tried.runs each in
@@ -142,10 +142,10 @@ by-same options bytes one other found reach cut is = record {
   are = is.are;
   orders_told = is.orders_told;
   runs_told = is.runs_told;
-  orders = subst (λ (is_cut : Bool). AreMetBy is.script.config.harts (AreTriedOf is.script.config is.script.content options.seed options.orders is_cut) (TellsOrders options.seed) is.conditions is.orders_told)
+  orders = subst (λ (is_cut : Bool). AreMetBy is.script.config.harts (AreTriedOf is.script.config is.script.content is.conditions options.seed options.orders is_cut) (TellsOrders options.seed) is.conditions is.orders_told)
       (sym cut) is.orders;
   runs = (λ some.
-      subst (λ (is_cut : Bool). AreMetBy is.script.config.harts (AreRunsOf is.script.config is.script.content options.runs is_cut) TellsRuns is.conditions is.runs_told)
+      subst (λ (is_cut : Bool). AreMetBy is.script.config.harts (AreRunsOf is.script.config is.script.content is.conditions options.runs is_cut) TellsRuns is.conditions is.runs_told)
       (sym cut) (is.runs some));
   no_runs = is.no_runs;
   told = reach ∙ is.told;

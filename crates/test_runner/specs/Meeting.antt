@@ -53,10 +53,10 @@ pub record AreMetByTried (options : Options) (bytes : List ℕ) (file : FileRepo
   pub are : IsProgramWith bytes script conditions
   pub orders_told : List Extent
   pub runs_told : List Extent
-  pub orders : AreMetBy script.config.harts (AreTriedOf script.config script.content options.seed options.orders file.is_cut)
+  pub orders : AreMetBy script.config.harts (AreTriedOf script.config script.content conditions options.seed options.orders file.is_cut)
       (TellsOrders options.seed) conditions orders_told
   pub runs : options.runs ≢ 0
-      → AreMetBy script.config.harts (AreRunsOf script.config script.content options.runs file.is_cut) TellsRuns conditions runs_told
+      → AreMetBy script.config.harts (AreRunsOf script.config script.content conditions options.runs file.is_cut) TellsRuns conditions runs_told
   pub no_runs : options.runs ≡ 0 → runs_told ≡ []
   pub told : extents file ≡ orders_told ++ runs_told
   pub many : length (verdicts file) ≡ points_of conditions + (if options.runs == 0 then 0 else points_of conditions)

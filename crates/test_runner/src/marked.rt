@@ -3,12 +3,10 @@ ghost use Rattle.std.specs.Prelude.{IfSome};
 ghost use Rattle.board_terms.specs.Limits.{IsGood};
 
 use access_marks::{Marks, marks_of};
-use board_core::{Config, Event, Op, Reply};
-use conditions::{
-    Condition, Pattern, Rule, first_misfit, first_misfit_with, fits_step, has_fitting,
-};
-use marked_conditions::{asks_of_marks, failing_step_with, holds_with, mark_of};
-use outcome_statistics::{failing_step, is_met, meets};
+use board_core::{Config, Event};
+use conditions::{Condition, Rule, first_misfit_with};
+use marked_conditions::{asks_of_marks, failing_step_with, has_telling, holds_with};
+use outcome_statistics::{ask_of_marks, failing_step, is_met, meets};
 use std::alloc::{AllocError, Global};
 use test_report::{Unjudged, Verdict};
 
@@ -28,10 +26,7 @@ pub(crate) fn marks_asked(
 ) -> Result<Option<Vec<Marks>>, AllocError>
     requires { IsGood config.now }
 {
-    if !conditions
-        .iter()
-        .any(|condition| asks_of_marks(&condition.rule))
-    {
+    if !ask_of_marks(conditions) {
         return Ok(None);
     }
     match with_room(config, events.len() as u64) {
@@ -60,18 +55,17 @@ pub(crate) fn judged(
     events: &[Event],
     marks: &Option<Vec<Marks>>,
 ) -> Verdict {
-    if !asks_of_marks(rule) {
-        return match first_misfit(rule, harts) {
-            Some(misfit) => Verdict::Misfit(misfit),
-            None => Verdict::of(meets(rule, events, None)),
-        };
+    if let Some(misfit) = first_misfit_with(rule, harts) {
+        return Verdict::Misfit(misfit);
     }
-    match (first_misfit_with(rule, harts), marks) {
-        (Some(misfit), _) => Verdict::Misfit(misfit),
-        (None, Some(marks)) if marks.len() == events.len() => {
+    if !asks_of_marks(rule) {
+        return Verdict::of(meets(rule, events, &[], None));
+    }
+    match marks {
+        Some(marks) if marks.len() == events.len() => {
             Verdict::of(holds_with(rule, events, marks, None))
         }
-        (None, _) => Verdict::NotJudged(Unjudged::NoMarks),
+        _ => Verdict::NotJudged(Unjudged::NoMarks),
     }
 }
 
@@ -89,35 +83,16 @@ pub(crate) fn failing_place(
     }
 }
 
-/// Whether each pattern of a condition has a step in a record. Of a mark only an access counts that is translated, is a fetch, or
-/// faults.
+/// Whether each pattern of a condition has a step in a record. Of a mark only a step counts of which it tells something.
 pub(crate) fn is_met_by(rule: &Rule, events: &[Event]) -> bool {
     if !asks_of_marks(rule) {
         return is_met(rule, events);
     }
     match rule {
-        Rule::Never(p) | Rule::OfSome(p) | Rule::Each(p) => has_step(p, events),
-        Rule::NeverAfter(p, q) | Rule::Before(p, q) => has_step(p, events) && has_step(q, events),
+        Rule::Never(p) | Rule::OfSome(p) | Rule::Each(p) => has_telling(p, events),
+        Rule::NeverAfter(p, q) | Rule::Before(p, q) => {
+            has_telling(p, events) && has_telling(q, events)
+        }
         Rule::End(_) | Rule::CanEnd(_) => true,
     }
-}
-
-/// Whether a pattern has a step in a record.
-fn has_step(p: &Pattern, events: &[Event]) -> bool {
-    match mark_of(p) {
-        Some(_) => has_access(p, events),
-        None => has_fitting(p, events),
-    }
-}
-
-/// Whether some access that is translated, is a fetch, or faults fits a pattern.
-fn has_access(p: &Pattern, events: &[Event]) -> bool {
-    for event in events {
-        let is_fetch = matches!(event.op(), Op::Fetch(_));
-        let faults = matches!(event.reply(), Reply::Fault(_));
-        if fits_step(p, event) && (is_fetch || faults || event.translation().is_some()) {
-            return true;
-        }
-    }
-    false
 }

@@ -169,6 +169,19 @@ impl<E: Cached> Cache<E> {
         })
     }
 
+    /// Becomes a copy of another cache.
+    pub fn copy_from(&mut self, from: &Cache<E>)
+        ensures { self.new ≡ from.now }
+    {
+        self.next = from.next;
+        self.dropped = from.dropped;
+        self.places.clear();
+        let Ok(()) = self.places.try_extend_from_slice(&from.places) else {
+            unreachable!()
+        };
+        self.dates = from.dates;
+    }
+
     /// The live fills, oldest first.
     pub fn live(&self) -> Live<'_, E>
         ensures live { reverse result ≡ self.now.live }

@@ -59,6 +59,14 @@ impl Caches {
         })
     }
 
+    /// Becomes a copy of other caches.
+    pub fn copy_from(&mut self, from: &Caches)
+        ensures { self.new ≡ from.now }
+    {
+        self.tlb.copy_from(&from.tlb);
+        self.words.copy_from(&from.words);
+    }
+
     /// Drops everything in both caches, as a stop of the hart or a reset does (profile).
     pub fn clear(&mut self)
         ensures tlb { self.new.tlb ≡ cleared self.old.tlb }

@@ -1,6 +1,6 @@
 -- Orders, one behind the other, and what they say.
 use Rattle.std.proofs.Common.{◌≡◌, ℕ, zero, suc, ◌<◌, ◌≤◌, List, [], ◌∷◌, ◌++◌, inl, inr, ◌⊎◌, length, refl, sym, ap, subst, arith}
-use Rattle.std.specs.Prelude.{Option, Some, None, slice_get}
+use Rattle.std.specs.Prelude.{OnOk, Option, Some, None, Result, Ok, Err, slice_get}
 use Rattle.std.specs.Option.{option_map}
 use Rattle.std.proofs.lemmas.Option.{none-some, same_Some, slice_get_past, slice_get_read, slice_get_within}
 use Rattle.std.specs.Slice.{IsItemAt}
@@ -18,13 +18,13 @@ use Rattle.outcome_statistics.specs.Findings.{AreFound, AreOrders}
 use Rattle.outcome_statistics.specs.Records.{EachIs, Tried}
 use Rattle.tried_orders.specs.Inside.Judging.{Judges}
 
-pub orders-behind : (c : Config) (content : Content) (seed first from to : ℕ) (records more : List Tried)
-    → AreOrders c content seed first records from → AreOrders c content seed from more to
-    → AreOrders c content seed first (more ++ records) to
-orders-behind c content seed first from to records [] here there =
-    subst (λ (n : ℕ). AreOrders c content seed first records n) (sym there) here
-orders-behind c content seed first from to records (x ∷ more) here there =
-    (there.0, there.1, orders-behind c content seed first from x.number records more here there.2)
+pub orders-behind : (c : Config) (content : Content) (conditions : List Condition) (seed first from to : ℕ) (records more : List Tried)
+    → AreOrders c content conditions seed first records from → AreOrders c content conditions seed from more to
+    → AreOrders c content conditions seed first (more ++ records) to
+orders-behind c content conditions seed first from to records [] here there =
+    subst (λ (n : ℕ). AreOrders c content conditions seed first records n) (sym there) here
+orders-behind c content conditions seed first from to records (x ∷ more) here there =
+    (there.0, there.1, orders-behind c content conditions seed first from x.number records more here there.2)
 
 pub same-task : (program : Program) (content : Content) → (task_in program).guests ≡ blocks_of content
     → program.ticks.now ≡ ticks_of content → task_in program ≡ task_of content
@@ -52,6 +52,11 @@ each-one-more P (y ∷ xs) x each last = (each.0, each-one-more P xs x each.1 la
 pub got : {X : Type 0} (xs : List X) (i : ℕ) (r : Option (Bor X)) → IsItemAt xs i r → option_map (λ (x : Bor X). x.now) r ≡ slice_get xs i
 got xs i None look = sym (slice_get_past xs i look.3)
 got xs i (Some x) look = sym (slice_get_read xs (length xs) i x.now refl look.3.0 look.1)
+
+-- what holds holds of a result
+pub on-ok : {T E : Type 0} (r : Result T E) (P : Type 0) → P → OnOk r P
+on-ok (Ok t) P holds = holds
+on-ok (Err e) P holds = tt
 
 not-none : {X : Type 0} (xs : List X) (i : ℕ) → i < length xs → slice_get xs i ≡ None → ⊥
 not-none [] i below none = absurd (omega arith)

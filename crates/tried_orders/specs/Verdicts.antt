@@ -18,17 +18,17 @@ use Rattle.hart_threads.specs.Shares.{IsRun}
 use Rattle.outcome_statistics.specs.declared.ends.Ends.{Ends}
 use Rattle.outcome_statistics.specs.declared.judgement.Judgement.{Judgement}
 use Rattle.outcome_statistics.specs.declared.judgement.Judgement.TheVariants as says
-use Rattle.outcome_statistics.specs.Findings.{AreEnded, AreOrders, HaveEnded}
+use Rattle.outcome_statistics.specs.Findings.{AreEnded, AreOrders, HasMarks, HaveEnded}
 use Rattle.outcome_statistics.specs.Judgements.{IsJudged, IsMaybe, asked_rule}
 use Rattle.outcome_statistics.specs.Met.{AreNeedsMet}
 use Rattle.outcome_statistics.specs.Records.{EachIs, Tried}
-use Rattle.test_report.specs.Misfits.{IsMisfitFor}
+use Rattle.test_report.specs.Misfits.{IsMisfitOfMarked}
 use Rattle.test_report.specs.Statuses.{extents, verdicts}
 use Rattle.test_report.specs.declared.report.FileReport.{FileReport}
 use Rattle.test_report.specs.declared.verdict.Extent.{Extent}
 use Rattle.test_report.specs.declared.verdict.Extent.TheVariants as spans
 use Rattle.test_report.specs.declared.verdict.Unjudged.{Unjudged}
-use Rattle.test_report.specs.declared.verdict.Unjudged.TheVariants.{NoTime, NoOrder, NotAllOrders, TooMany, NoMarks}
+use Rattle.test_report.specs.declared.verdict.Unjudged.TheVariants.{NoTime, NoOrder, NotAllOrders, TooMany, NoMarks, Untold}
 use Rattle.test_report.specs.declared.verdict.Verdict.{Verdict}
 use Rattle.test_report.specs.declared.verdict.Verdict.TheVariants.{Holds, Fails, Vacuous, NoEnd, Misfit, NotJudged}
 use Rattle.test_terms.specs.declared.options.Options.{Options}
@@ -48,22 +48,24 @@ behind_asked (One order) = order + 1
 
 -- These are the records of a program's orders that are asked for, the last in front: of each, or of the first ones if the
 -- time was over.
-pub record AreTriedOf (c : Config) (content : Content) (seed : ℕ) (asked : Orders) (is_cut : Bool) (tried : List Tried) : Type 0 where
+pub record AreTriedOf (c : Config) (content : Content) (conditions : List Condition) (seed : ℕ) (asked : Orders) (is_cut : Bool)
+    (tried : List Tried) : Type 0 where
   pub to : ℕ
-  pub are : AreOrders c content seed (first_asked asked) tried to
+  pub are : AreOrders c content conditions seed (first_asked asked) tried to
   pub most : to ≤ behind_asked asked
   pub whole : is_cut ≡ false → to ≡ behind_asked asked
 
--- The record, with its end, is that of a run of the program on threads that no gate held back.
-pub record IsRunRecord (c : Config) (content : Content) (x : Tried) : Type 0 where
+-- The record, with its marks and its end, is that of a run of the program on threads that no gate held back.
+pub record IsRunRecord (c : Config) (content : Content) (conditions : List Condition) (x : Tried) : Type 0 where
   pub end : End
   pub ended : x.end ≡ ending end
   pub is : IsEnd end (opening_at c) (reverse x.events) (blocks_of content)
   pub run : IsRun (λ actor ordinal answer. answer ≡ true) (opening_at c) (blocks_of content) (ticks_of content) (reverse x.events) end
+  pub marked : HasMarks c conditions x
 
 -- These are the records of so many runs on threads, or of fewer if the time was over.
-pub record AreRunsOf (c : Config) (content : Content) (runs : ℕ) (is_cut : Bool) (tried : List Tried) : Type 0 where
-  pub each : EachIs (IsRunRecord c content) tried
+pub record AreRunsOf (c : Config) (content : Content) (conditions : List Condition) (runs : ℕ) (is_cut : Bool) (tried : List Tried) : Type 0 where
+  pub each : EachIs (IsRunRecord c content conditions) tried
   pub most : length tried ≤ runs
   pub whole : is_cut ≡ false → length tried ≡ runs
 
@@ -108,10 +110,11 @@ IsUnjudgedBy is_cut asked tried NoOrder = tried ≡ []
 IsUnjudgedBy is_cut asked tried NotAllOrders = IsOfAll asked
 IsUnjudgedBy is_cut asked tried (TooMany states) = ⊥
 IsUnjudgedBy is_cut asked tried NoMarks = ⊥
+IsUnjudgedBy is_cut asked tried Untold = ⊥
 
 -- The condition has no misfit on a board with so many harts.
 abbrev pub HasNoMisfit : (harts : ℕ) → Option Condition → Type 0
-HasNoMisfit harts asked = (word : Word) → ¬ IsMisfitFor harts (asked_rule asked) word
+HasNoMisfit harts asked = (word : Word) → ¬ IsMisfitOfMarked harts (asked_rule asked) word
 
 -- There are records, they don't meet the condition, and it isn't vacuous, unless it begins with `maybe`.
 pub record SayFailing (asked : Option Condition) (tried : List Tried) : Type 0 where
@@ -131,7 +134,7 @@ IsFoundBy harts is_cut asked tried Holds = HasNoMisfit harts asked × Say asked 
 IsFoundBy harts is_cut asked tried Fails = HasNoMisfit harts asked × SayFailing asked tried
 IsFoundBy harts is_cut asked tried (Vacuous missing) = HasNoMisfit harts asked × SayLacking asked tried missing.is_second
 IsFoundBy harts is_cut asked tried NoEnd = HasNoMisfit harts asked × Say asked tried says.NoEnd
-IsFoundBy harts is_cut asked tried (Misfit word) = IsMisfitFor harts (asked_rule asked) word
+IsFoundBy harts is_cut asked tried (Misfit word) = IsMisfitOfMarked harts (asked_rule asked) word
 IsFoundBy harts is_cut asked tried (NotJudged why) = HasNoMisfit harts asked × IsUnjudgedBy is_cut asked tried why
 
 -- Each of these is found of the condition in its place.
@@ -176,9 +179,9 @@ module _ (options : Options) (c : Config) (content : Content) (conditions : List
   -- By the orders that the options ask for (AreTriedOf), one point more is found of each condition of a program, or of the program
   -- without any (AddsPoints); its extent has their number and seed, and how many the limit cut off (TellsOrders).
   abbrev pub AddsOrders : Type 0
-  AddsOrders = AddsPoints (AreTriedOf c content options.seed options.orders is_cut) (TellsOrders options.seed) c.harts is_cut conditions
+  AddsOrders = AddsPoints (AreTriedOf c content conditions options.seed options.orders is_cut) (TellsOrders options.seed) c.harts is_cut conditions
       before after
 
   -- The same by as many runs on threads as the options ask for (AreRunsOf, TellsRuns).
   abbrev pub AddsRuns : Type 0
-  AddsRuns = AddsPoints (AreRunsOf c content options.runs is_cut) TellsRuns c.harts is_cut conditions before after
+  AddsRuns = AddsPoints (AreRunsOf c content conditions options.runs is_cut) TellsRuns c.harts is_cut conditions before after

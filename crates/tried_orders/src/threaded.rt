@@ -3,7 +3,10 @@ ghost use Rattle.std.specs.Prelude.{◌≡◌, ◌≢◌, ◌∷◌, ℕ, List, 
 ghost use Rattle.conditions.specs.Endings.{ending};
 ghost use Rattle.guest_script.specs.Grammar.{content};
 ghost use Rattle.guest_programs.specs.Programs.{IsProgram};
-ghost use Rattle.outcome_statistics.specs.Findings.{AreFound};
+ghost use Rattle.access_marks.specs.declared.marks.Marks.{Marks as Told};
+ghost use Rattle.access_marks.specs.Marks.{AreMarked};
+ghost use Rattle.board_core.specs.Opening.{opening_at};
+ghost use Rattle.outcome_statistics.specs.Findings.{AreFound, AskOfMarks};
 ghost use Rattle.outcome_statistics.specs.Records.{Tried as Record};
 ghost use Rattle.tried_orders.specs.declared.points.Source.TheVariants.{Threads as FromThreads};
 ghost use Rattle.tried_orders.specs.Verdicts.{AddsRuns, AreRunsOf, IsCutByTime};
@@ -12,7 +15,7 @@ use crate::pace::Pace;
 use crate::points::{Source, Tried, judged, keep_first, put_points, tells_first};
 use guest_programs::RunEnd;
 use hart_threads::{Open, run};
-use outcome_statistics::Findings;
+use outcome_statistics::{Findings, marks_asked};
 use std::alloc::AllocError;
 use std::rt::{Clock, Files};
 use std::sync::Wait;
@@ -57,8 +60,8 @@ fn run_each<R: AllocGlobal + Clock + Eprint + Files + Sync + Threads + Wait>(
     requires program { IsProgram (content trial.now.script.now.body) }
     requires none { AreFound trial.now.script.now.config.harts trial.now.case.conditions.now [] tried.old.found }
     ensures runs { OnOk result ((records : List Record)
-        × AreRunsOf trial.now.script.now.config (content trial.now.script.now.body) trial.now.options.now.runs file.new.is_cut
-        records × AreFound trial.now.script.now.config.harts trial.now.case.conditions.now records tried.new.found) }
+        × AreRunsOf trial.now.script.now.config (content trial.now.script.now.body) trial.now.case.conditions.now
+        trial.now.options.now.runs file.new.is_cut records × AreFound trial.now.script.now.config.harts trial.now.case.conditions.now records tried.new.found) }
     ensures same { file.new.points ≡ file.old.points }
     ensures source { tried.new.source ≡ tried.old.source }
     ensures cut { file.new.is_cut ≡ false → file.old.is_cut ≡ false }
@@ -104,18 +107,24 @@ fn judge_run<R: AllocGlobal + Files>(
     tried: &mut Tried,
 ) -> Result<(), AllocError>
     requires many { length tried.old.found.judged.items ≡ length trial.now.case.conditions.now }
+    requires opening { ended.now.board.opening ≡ opening_at ended.now.board.opening.config }
     ensures source { tried.new.source ≡ tried.old.source }
-    ensures found { OnOk result ((records : List Record) (x : Record) → x.number ≡ number
-        → x.events ≡ reverse ended.now.board.past → x.end ≡ ending ended.now.end
+    ensures found { OnOk result ((marks : List Told)
+        × (AskOfMarks trial.now.case.conditions.now
+        → AreMarked (opening_at ended.now.board.opening.config) ended.now.board.past (reverse marks))
+        × ((records : List Record) (x : Record) → x.number ≡ number → x.events ≡ reverse ended.now.board.past
+        → x.marks ≡ marks → x.end ≡ ending ended.now.end
         → AreFound ended.now.board.opening.config.harts trial.now.case.conditions.now records tried.old.found
-        → AreFound ended.now.board.opening.config.harts trial.now.case.conditions.now (x ∷ records) tried.new.found) }
+        → AreFound ended.now.board.opening.config.harts trial.now.case.conditions.now (x ∷ records) tried.new.found)) }
 {
     let alloc = trial.rt.alloc();
+    let marks = marks_asked(alloc, trial.case.conditions, &ended.board)?;
     tried.found.see(
         alloc,
         trial.case.conditions,
         number,
         &ended.board,
+        &marks,
         ended.end,
     )?;
     keep_failing(trial, number, ended, &tried.found, &mut tried.kept)

@@ -71,7 +71,7 @@ module _ (harts : ℕ) (asked : Option Condition) (judged : Judged) (ends : Ends
 pub record AreFoundFor (c : Config) (content : Content) (conditions : List Condition) (seed : ℕ) (asked : Orders) (is_cut : Bool)
     (found : Findings) : Type 0 where
   pub tried : List Tried
-  pub are : AreTriedOf c content seed asked is_cut tried
+  pub are : AreTriedOf c content conditions seed asked is_cut tried
   pub right : AreFound c.harts conditions tried found
 
 -- what is told of records, by where they come from

@@ -1,8 +1,11 @@
-use Rattle.std.proofs.Common.{◌≡◌, ℕ, ◌∙◌, ap, refl, subst, arith}
+use Rattle.std.proofs.Common.{◌≡◌, ℕ, List, ◌∙◌, ap, length, refl, reverse, subst, sym, arith}
+use Rattle.access_marks.specs.declared.marks.Marks.{Marks}
+use Rattle.access_marks.specs.Marks.{AreMarked}
+use Rattle.board_core.specs.Opening.{opening_at}
 use Rattle.board_terms.specs.declared.config.Config.{Config}
 use Rattle.seeded_orders.specs.Orders.{IsTried}
 use Rattle.guest_programs.specs.Steps.{task_in, Task}
-use Rattle.outcome_statistics.specs.Findings.{AreFoundOf}
+use Rattle.outcome_statistics.specs.Findings.{AreFoundOf, AskOfMarks}
 use Rattle.outcome_statistics.proofs.Finding.{found-next, found-none}
 use Rattle.outcome_statistics.proofs.orders.each_tried.Goals as goal
 
@@ -12,16 +15,31 @@ loop-order-init c =
     let none = c.in_ok-found.ensures k.harts c.args.batch.now.conditions.now refl in
     (refl, none.many, (λ body same. found-none k body c.args.batch.now.conditions.now c.args.batch.now.seed c.args.batch.now.from c.in_ok-found.found none))
 
+pub marks_asked-requires : goal.marks_asked-requires
+marks_asked-requires c = c.in_ok-end.ensures.opening ∙ ap opening_at (sym c.try_order_on.ensures.config)
+
+pub see-requires : goal.see-requires
+see-requires c = record {
+  many = c.loop-order.invariant.1;
+  marks = λ ask. c.in_ok-marks.ensures.length ask ∙ ap length (sym c.deref.ensures.value);
+}
+
 pub loop-order-preserved : goal.loop-order-preserved
 loop-order-preserved c =
     let k : Config = c.args.board.now.opening.config in
     let P : Config → Task → Type 0 = λ k p. IsTried k p c.args.batch.now.seed c.loop-order.order c.try_order_on.new.board.past c.in_ok-end.end in
-    let here = subst (λ (k : Config). P k (task_in c.args.program.now)) c.loop-order.invariant.0 c.in_ok-end.ensures.tried in (
+    let here = subst (λ (k : Config). P k (task_in c.args.program.now)) c.loop-order.invariant.0 c.in_ok-end.ensures.tried in
+    let numbers = c.try_order_on.ensures.config ∙ c.loop-order.invariant.0 in
+    let marks : List Marks = c.deref.result.now in
+    let marked : AskOfMarks c.args.batch.now.conditions.now → AreMarked (opening_at k) c.try_order_on.new.board.past (reverse marks) = λ ask.
+    subst (λ (k : Config). AreMarked (opening_at k) c.try_order_on.new.board.past (reverse marks)) numbers
+    (subst (λ (all : List Marks). AreMarked (opening_at c.try_order_on.new.board.opening.config) c.try_order_on.new.board.past (reverse all)) (sym c.deref.ensures.value)
+    (c.in_ok-marks.ensures.marked ask)) in (
       c.try_order_on.ensures.config ∙ c.loop-order.invariant.0,
       c.see.ensures.many,
       λ body same.
-          found-next k body c.args.batch.now.conditions.now c.args.batch.now.seed c.args.batch.now.from c.loop-order.order c.try_order_on.new.board.past c.in_ok-end.end
-          c.loop-order.found c.see.new.self c.try_order_on.new.board.opening.config.harts (ap (λ (k : Config). k.harts) (c.try_order_on.ensures.config ∙ c.loop-order.invariant.0)) (subst (P k) same here) c.in_ok-see.ensures.found (c.loop-order.invariant.2 body same),
+          found-next k body c.args.batch.now.conditions.now c.args.batch.now.seed c.args.batch.now.from c.loop-order.order c.try_order_on.new.board.past marks c.in_ok-end.end
+          c.loop-order.found c.see.new.self c.try_order_on.new.board.opening.config.harts (ap (λ (k : Config). k.harts) numbers) (subst (P k) same here) marked c.in_ok-see.ensures.found (c.loop-order.invariant.2 body same),
     )
 
 pub returns : goal.returns

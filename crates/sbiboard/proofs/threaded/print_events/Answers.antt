@@ -1,9 +1,9 @@
 use Rattle.std.proofs.Common.{◌∙◌, ◌+◌, Ok, drop, subst}
 use Rattle.board_terms.specs.declared.reply.Reply.{Reply}
-use Rattle.sbiboard.specs.PrintedScripts.{FitsAnswer, FitsOp}
+use Rattle.script_tasks.specs.PrintedScripts.{FitsAnswer, FitsOp}
 use Rattle.sbiboard.specs.Threaded.{events_text}
 use Rattle.sbiboard.proofs.Recorded.{events_text-more}
-use Rattle.sbiboard.proofs.Replayed.{has_written-passed}
+use Rattle.script_tasks.proofs.Replayed.{has_written-passed}
 use Rattle.sbiboard.proofs.RunAccepted.{events_fit-more}
 use Rattle.sbiboard.proofs.threaded.print_events.Goals as goal
 

@@ -2,7 +2,7 @@ use Rattle.std.proofs.Common.{◌≡◌, ◌++◌, drop}
 use Rattle.std.specs.List.{AllByRecursion}
 use Rattle.sbiboard.specs.Inside.Fitting.{EventFits}
 use Rattle.sbiboard.specs.Threaded.{events_text}
-use Rattle.sbiboard.proofs.Replayed.{HasWritten}
+use Rattle.script_tasks.proofs.Replayed.{HasWritten}
 use Rattle.sbiboard.proofs.threaded.print_events.Given as goal
 
 abbrev pub invariant-loop-event : goal.invariant-loop-event

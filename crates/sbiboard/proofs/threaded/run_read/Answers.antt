@@ -1,11 +1,11 @@
 use Rattle.std.proofs.Common.{ℕ, Bool, Err, sym, ap, subst, ◌∙◌, rules}
 use Rattle.guest_script.specs.Grammar.{content, written}
-use Rattle.sbiboard.specs.declared.outcome.Outcome.{Outcome}
-use Rattle.sbiboard.specs.declared.outcome.Outcome.TheVariants.{BadBoard, WrongKind}
-use Rattle.sbiboard.specs.Running.{Writes}
+use Rattle.script_tasks.specs.declared.outcome.Outcome.{Outcome}
+use Rattle.script_tasks.specs.declared.outcome.Outcome.TheVariants.{BadBoard, WrongKind}
+use Rattle.script_tasks.specs.Running.{Writes}
 use Rattle.sbiboard.specs.Threaded.{EndsRun, RunsOnThreads, programmed}
 use Rattle.sbiboard.proofs.Ran.{tasks-are, has_run, no-tasks}
-use Rattle.sbiboard.proofs.Stopped.{bad_board, writes_stopped}
+use Rattle.script_tasks.proofs.Stopped.{bad_board, writes_stopped}
 use Rattle.sbiboard.proofs.threaded.run_read.Goals as goal
 
 pub returns-then-not-is_program-clause-writes : goal.returns-then-not-is_program-clause-writes

@@ -1,7 +1,7 @@
 use Rattle.std.proofs.Common.{Bool, List, ℕ}
-use Rattle.sbiboard.specs.Running.{Writes}
+use Rattle.script_tasks.specs.Running.{Writes}
 use Rattle.sbiboard.specs.Threaded.{EndsRun, RunsOnThreads, programmed}
-use Rattle.sbiboard.proofs.Stopped.{known_fault, known_read}
+use Rattle.script_tasks.proofs.Stopped.{known_fault, known_read}
 use Rattle.sbiboard.proofs.threaded.run_script.Goals as goal
 
 pub returns-in-Ok-clause-writes : goal.returns-in-Ok-clause-writes

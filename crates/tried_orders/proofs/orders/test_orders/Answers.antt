@@ -23,7 +23,7 @@ returns-clause-points g c =
     let cut : c.note_all.new.self.is_cut ≡ c.try_all.new.file.is_cut = c.note_all.ensures.cut ∙ c.put_points.ensures.cut in
     record {
       tried = found.tried;
-      are = subst (λ (is_cut : Bool). AreTriedOf numbers body options.seed options.orders is_cut found.tried) (sym cut) found.are;
+      are = subst (λ (is_cut : Bool). AreTriedOf numbers body conditions options.seed options.orders is_cut found.tried) (sym cut) found.are;
       more = more;
       added = c.note_all.ensures.same ∙ put.1
           ∙ ap (λ (points : Vec Point). map (λ (p : Point). p.verdict) points.items ++ more) c.try_all.ensures.same;

@@ -11,6 +11,6 @@ returns g c first records are right =
     let body : Content = content c.args.trial.now.script.now.body in
     let more = c.in_ok-more.ensures.found in (
       more.0 ++ records,
-      orders-behind numbers body c.args.trial.now.options.now.seed first c.args.from c.args.to records more.0 are more.1,
+      orders-behind numbers body c.args.trial.now.case.conditions.now c.args.trial.now.options.now.seed first c.args.from c.args.to records more.0 are more.1,
       c.in_ok-add.ensures numbers.harts c.args.trial.now.case.conditions.now records more.0 right more.2,
     )

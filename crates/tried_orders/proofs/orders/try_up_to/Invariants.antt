@@ -13,5 +13,5 @@ invariant-loop-from g l =
     (l.from ≤ l.many) × (l.file.points ≡ l.fn.file.points) × (l.file.is_cut ≡ l.fn.file.is_cut)
     × (AreFound l.trial.script.now.config.harts l.trial.case.conditions.now [] l.fn.found
     → (records : List Tried)
-    × AreOrders l.trial.script.now.config (content l.trial.script.now.body) l.trial.options.now.seed 0 records l.from
+    × AreOrders l.trial.script.now.config (content l.trial.script.now.body) l.trial.case.conditions.now l.trial.options.now.seed 0 records l.from
     × AreFound l.trial.script.now.config.harts l.trial.case.conditions.now records l.found)

@@ -11,7 +11,8 @@ use Rattle.guest_programs.specs.declared.ends.End.{End}
 use Rattle.guest_programs.specs.Ends.{IsEnd}
 use Rattle.guest_programs.specs.Programs.{blocks_of, ticks_of}
 use Rattle.hart_threads.specs.Shares.{IsRun}
-use Rattle.outcome_statistics.specs.Findings.{AreFound}
+use Rattle.access_marks.specs.Marks.{AreMarked}
+use Rattle.outcome_statistics.specs.Findings.{AreFound, HasMarks}
 use Rattle.outcome_statistics.specs.Records.{Tried}
 use Rattle.tried_orders.specs.Verdicts.{IsRunRecord}
 use Rattle.tried_orders.proofs.threaded.run_each.Goals as goal
@@ -20,7 +21,10 @@ pub loop-number-init : goal.loop-number-init
 loop-number-init g c = (refl, refl, refl, ([], refl, tt, c.requires.none))
 
 pub judge_run-requires : goal.judge_run-requires
-judge_run-requires g c = record { many = c.loop-number.invariant.3.3.many }
+judge_run-requires g c = record {
+  many = c.loop-number.invariant.3.3.many;
+  opening = c.in_ok-ended.ensures.opening ∙ ap (λ (o : Opening). opening_at o.config) (sym c.in_ok-ended.ensures.opening);
+}
 
 pub loop-number-preserved : goal.loop-number-preserved
 loop-number-preserved g c =
@@ -32,7 +36,8 @@ loop-number-preserved g c =
     let board : Course = c.in_ok-ended.ended.board in
     let past : List Event = board.past in
     let end : End = c.in_ok-ended.ended.end in
-    let x : Tried = record { number = c.loop-number.number; events = reverse past; end = ending end } in
+    let judged = c.in_ok-judge_run.ensures.found in
+    let x : Tried = record { number = c.loop-number.number; events = reverse past; marks = judged.0; end = ending end } in
     let opened : board.opening ≡ opening_at numbers = c.in_ok-ended.ensures.opening in
     let whole : past ≡ reverse x.events = sym (reverse-reverse past) in
     let ended : IsEnd end (opening_at numbers) (reverse x.events) (blocks_of body) =
@@ -41,7 +46,10 @@ loop-number-preserved g c =
     let run : IsRun (λ actor ordinal answer. answer ≡ true) (opening_at numbers) (blocks_of body) (ticks_of body) (reverse x.events) end =
     subst (λ (o : Opening). IsRun (λ actor ordinal answer. answer ≡ true) o (blocks_of body) (ticks_of body) (reverse x.events) end) opened
     (subst (λ (events : List Event). IsRun (λ actor ordinal answer. answer ≡ true) board.opening (blocks_of body) (ticks_of body) events end) whole c.in_ok-ended.ensures.threads) in
-    let one : IsRunRecord numbers body x = record { end = end; ended = refl; is = ended; run = run } in
+    let marked : HasMarks numbers conditions x = λ ask.
+    subst (λ (o : Opening). AreMarked (opening_at o.config) (reverse x.events) (reverse x.marks)) opened
+    (subst (λ (events : List Event). AreMarked (opening_at board.opening.config) events (reverse x.marks)) whole (judged.1 ask)) in
+    let one : IsRunRecord numbers body conditions x = record { end = end; ended = refl; is = ended; run = run; marked = marked } in
     let harts : board.opening.config.harts ≡ numbers.harts = ap (λ (o : Opening). o.config.harts) opened in (
       before.0,
       c.judge_run.ensures.source ∙ before.1,
@@ -51,7 +59,7 @@ loop-number-preserved g c =
         (let long = before.3.1 in omega arith),
         (one, before.3.2),
         subst (λ (n : ℕ). AreFound n conditions (x ∷ records) c.judge_run.new.tried.found) harts
-            (c.in_ok-judge_run.ensures.found records x refl refl refl
+            (judged.2 records x refl refl refl refl
             (subst (λ (n : ℕ). AreFound n conditions records c.loop-number.tried.found) (sym harts) before.3.3)),
       ),
     )

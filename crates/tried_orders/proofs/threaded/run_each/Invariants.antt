@@ -10,5 +10,5 @@ abbrev pub invariant-loop-number : goal.invariant-loop-number
 invariant-loop-number g l =
     (l.file.points ≡ l.fn.file.points) × (l.tried.source ≡ l.fn.tried.source) × (l.file.is_cut ≡ l.fn.file.is_cut)
     × ((records : List Tried) × (length records ≡ l.number)
-    × EachIs (IsRunRecord l.trial.script.now.config (content l.trial.script.now.body)) records
+    × EachIs (IsRunRecord l.trial.script.now.config (content l.trial.script.now.body) l.trial.case.conditions.now) records
     × AreFound l.trial.script.now.config.harts l.trial.case.conditions.now records l.tried.found)

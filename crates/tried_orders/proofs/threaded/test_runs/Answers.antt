@@ -31,7 +31,7 @@ returns-clause-points g c some =
     let source : c.run_each.new.tried.source ≡ Threads = c.run_each.ensures.source ∙ c.in_ok-tried.ensures.source in
     record {
       tried = runs.0;
-      are = subst (λ (is_cut : Bool). AreRunsOf numbers body options.runs is_cut runs.0) (sym cut) runs.1;
+      are = subst (λ (is_cut : Bool). AreRunsOf numbers body conditions options.runs is_cut runs.0) (sym cut) runs.1;
       more = more;
       added = put.1 ∙ ap (λ (points : Vec Point). map (λ (p : Point). p.verdict) points.items ++ more) c.run_each.ensures.same;
       many = put.2;

@@ -20,10 +20,10 @@ returns-clause-found c =
     let shown : c.history-events.result.now ≡ reverse c.args.board.now.past =
     sym (reverse-reverse c.history-events.result.now) ∙ ap (λ (xs : List Event). reverse xs) c.history-events.ensures.events in
     let harts : c.config.result.now.harts ≡ c.args.board.now.opening.config.harts = ap (λ (k : Config). k.harts) c.config.ensures.config in
-    on-ok-by c.see-3.result _ _ c.see-3.ensures (λ sees tried x number events end found. record {
+    on-ok-by c.see-3.result _ _ c.see-3.ensures (λ sees tried x number events marks end found. record {
       many = ap (λ (xs : List Judged). length xs) after ∙ size ∙ found.many;
       each = subst (EachTells c.args.conditions.now (x ∷ tried)) (sym after)
-          (c.judge_each.ensures.each tried x number (events ∙ sym shown) (end ∙ sym c.ending.ensures) (subst (EachTells c.args.conditions.now tried) (sym mine) found.each));
+          (c.judge_each.ensures.each tried x number (events ∙ sym shown) marks (end ∙ sym c.ending.ensures) (subst (EachTells c.args.conditions.now tried) (sym mine) found.each));
       well = c.see.ensures None tried x number (not-so c.is.result (same-end c.is.result c.args.end ends.Stuck x.end c.is.ensures end)) found.well;
       ends = c.see-2.ensures tried x end found.ends;
       records = records-next x c.history-events.result.now tried c.args.self.now.records _ c.in_ok-kept.kept (events ∙ sym shown) c.in_ok-kept.ensures c.in_ok-insert.ensures.updates found.records;

@@ -1,0 +1,3 @@
+pub mod Asked
+pub mod FileWords
+pub mod RunWords

@@ -1,0 +1,5 @@
+use Rattle.outcome_statistics.proofs.Asking.{NoneAsks}
+use Rattle.outcome_statistics.proofs.marking.ask_of_marks.Given as goal
+
+abbrev pub invariant-loop-condition : goal.invariant-loop-condition
+invariant-loop-condition l = NoneAsks l.conditions l.condition-index

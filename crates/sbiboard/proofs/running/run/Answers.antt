@@ -1,7 +1,0 @@
-use Rattle.sbiboard.specs.Inside.Jobs.{Does, lines_for}
-use Rattle.sbiboard.proofs.Stopped.{known_fault}
-use Rattle.sbiboard.proofs.running.run.Goals as goal
-
-pub returns-in-Err-clause-writes : goal.returns-in-Err-clause-writes
-returns-in-Err-clause-writes g c =
-    known_fault (lines_for c.args.job) (Does c.args.job) (g.W.Sink.written c.args.writer.now) (g.R.Source.left c.args.reader.now) c.in-Err.fault _ c.unread.ensures c.in-Err.ensures.script

@@ -1,0 +1,9 @@
+pub mod Checked
+pub mod Comments
+pub mod ReadBack
+pub mod ReadLines
+pub mod Replayed
+pub mod Retraced
+pub mod Stopped
+pub mod Taken
+pub mod UpTo
