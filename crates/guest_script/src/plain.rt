@@ -23,6 +23,50 @@ use script_lines::{
 };
 use std::alloc::AllocError;
 
+/// The operations that a line's letters are compared with.
+trait Among {
+    ghost use Rattle.std.specs.Prelude.{◌≡◌, ◌≤◌, ◌∷◌, [], IfSome, length};
+    ghost use Rattle.guest_script.specs.Inside.PlainLines.{BeginsOp};
+    ghost use Rattle.script_lines.specs.Packing.{op_made};
+
+    /// An operation's name and its numbers, which have no limits of their own.
+    fn plain_op<'a>(
+        bytes: &'a [u8],
+        numbers: &mut ArrayVec<u64, MOST_ARGUMENTS>,
+    ) -> Option<(OpShape, &'a [u8])>
+        requires { numbers.old.items ≡ [] }
+        ensures op { IfSome result
+            (λ found. BeginsOp (32 ∷ bytes.now) (op_made found.0 numbers.new.items) found.1.now) }
+        ensures shorter { IfSome result (λ found. length found.1.now ≤ length bytes.now) };
+}
+
+/// All but atomic ones, and stores of part of a word.
+struct Usual;
+
+/// Atomic ones, and stores of part of a word. They are rare, and a loop that had them too would take longer for each line.
+struct Atomic;
+
+impl Among for Usual {
+    #[inline(always)]
+    fn plain_op<'a>(
+        bytes: &'a [u8],
+        numbers: &mut ArrayVec<u64, MOST_ARGUMENTS>,
+    ) -> Option<(OpShape, &'a [u8])> {
+        plain_by_letters(bytes, numbers)
+    }
+}
+
+impl Among for Atomic {
+    #[inline(always)]
+    fn plain_op<'a>(
+        bytes: &'a [u8],
+        numbers: &mut ArrayVec<u64, MOST_ARGUMENTS>,
+    ) -> Option<(OpShape, &'a [u8])> {
+        let name = amo_by_letters(bytes)?;
+        plain_named(name, name.word(), bytes, numbers)
+    }
+}
+
 /// Puts the lines from number `first` on, which the bytes are, behind the others, as long as they stand in the form in which
 /// steps are printed, and answers the next line's number, and the bytes from it on.
 ///
@@ -42,9 +86,37 @@ pub fn read_plain_lines<'a>(
     ensures within { IfOk result (λ found. found.0 + length found.1.now ≤ first + length bytes.now) }
     ensures shorter { IfOk result (λ found. length found.1.now ≤ length bytes.now) }
 {
+    let (mut number, mut rest) = read_usual_lines(steps, first, in_trace, bytes)?;
+    while let Some(after) = read_plain_line::<Atomic>(steps, number, in_trace, rest)? {
+        let (next, more) = read_usual_lines(steps, number + 1, in_trace, after)?;
+        number = next;
+        rest = more;
+    }
+    Ok((number, rest))
+}
+
+/// The same, up to the first line of an atomic operation, or of a store of part of a word.
+///
+/// # Errors
+///
+/// Memory was refused.
+#[inline(never)]
+fn read_usual_lines<'a>(
+    steps: &mut Lines,
+    first: u64,
+    in_trace: bool,
+    bytes: &'a [u8],
+) -> Result<(u64, &'a [u8]), AllocError>
+    requires number { first + length bytes.now < MOST_LINES }
+    ensures read { IfOk result
+        (λ found. GoesOn first (steps_of in_trace steps.old) bytes.now found.0
+        (steps_of in_trace steps.new) found.1.now) }
+    ensures within { IfOk result (λ found. found.0 + length found.1.now ≤ first + length bytes.now) }
+    ensures shorter { IfOk result (λ found. length found.1.now ≤ length bytes.now) }
+{
     let mut number = first;
     let mut rest = bytes;
-    while let Some(after) = read_plain_line(steps, number, in_trace, rest)? {
+    while let Some(after) = read_plain_line::<Usual>(steps, number, in_trace, rest)? {
         rest = after;
         number += 1;
     }
@@ -58,7 +130,7 @@ pub fn read_plain_lines<'a>(
 ///
 /// Memory was refused.
 #[inline(always)]
-fn read_plain_line<'a>(
+fn read_plain_line<'a, A: Among>(
     lines: &mut Lines,
     n: u64,
     in_trace: bool,
@@ -70,7 +142,7 @@ fn read_plain_line<'a>(
         × (length after.now < length bytes.now))) }
 {
     let mut numbers = ArrayVec::new();
-    match plain_line(in_trace, bytes, &mut numbers) {
+    match plain_line::<A>(in_trace, bytes, &mut numbers) {
         Some((plain, after)) => {
             lines.push_plain(n, plain, &numbers)?;
             Ok(Some(after))
@@ -83,7 +155,7 @@ fn read_plain_line<'a>(
 /// steps are printed, and no number of it has a limit of its own. Its operation's numbers are gathered. It is read in one
 /// pass; each other form is for the reader of words.
 #[inline(always)]
-fn plain_line<'a>(
+fn plain_line<'a, A: Among>(
     in_trace: bool,
     bytes: &'a [u8],
     numbers: &mut ArrayVec<u64, MOST_ARGUMENTS>,
@@ -96,7 +168,7 @@ fn plain_line<'a>(
 {
     let (actor, rest) = plain_actor(bytes)?;
     let named = after(rest, b" ")?;
-    let (op, rest) = plain_by_letters(named, numbers)?;
+    let (op, rest) = A::plain_op(named, numbers)?;
     if in_trace {
         let replies = after(rest, b" ->")?;
         let (said, end) = plain_said(replies)?;
@@ -236,7 +308,6 @@ fn plain_by_letters<'a>(
         [b'e', ..] => plain_named(OpName::Ecall, words::ECALL, bytes, numbers),
         [b'l', ..] => plain_named(OpName::Load, words::LOAD, bytes, numbers),
         [b't', ..] => plain_named(OpName::Tick, words::TICK, bytes, numbers),
-        [b'a', b'm', ..] => plain_amo(bytes, numbers),
         [b'a', ..] => plain_named(OpName::Advance, words::ADVANCE, bytes, numbers),
         [b'p', ..] => plain_named(OpName::Poll, words::POLL, bytes, numbers),
         [b'w', ..] => plain_named(OpName::Wfi, words::WFI, bytes, numbers),
@@ -245,29 +316,13 @@ fn plain_by_letters<'a>(
         [b'f', ..] => plain_named(OpName::Fencei, words::FENCEI, bytes, numbers),
         [b's', b'i', b'p', ..] => plain_named(OpName::Sip, words::SIP, bytes, numbers),
         [b's', b'i', ..] => plain_named(OpName::Sie, words::SIE, bytes, numbers),
-        [b's', b't', _, _, _, b' ', ..] => plain_named(OpName::Store, words::STORE, bytes, numbers),
-        [b's', b't', ..] => plain_amo(bytes, numbers),
+        [b's', b't', ..] => plain_named(OpName::Store, words::STORE, bytes, numbers),
         [b's', b'a', ..] => plain_named(OpName::Satp, words::SATP, bytes, numbers),
         [b's', b'f', ..] => plain_named(OpName::Sfence, words::SFENCE, bytes, numbers),
         [b's', b'e', ..] => plain_named(OpName::Serve, words::SERVE, bytes, numbers),
         [b's', ..] => plain_named(OpName::Sstatus, words::SSTATUS, bytes, numbers),
         _ => None,
     }
-}
-
-/// The same of an atomic operation, or of a store of part of a word.
-#[inline(never)]
-fn plain_amo<'a>(
-    bytes: &'a [u8],
-    numbers: &mut ArrayVec<u64, MOST_ARGUMENTS>,
-) -> Option<(OpShape, &'a [u8])>
-    requires { numbers.old.items ≡ [] }
-    ensures op { IfSome result
-        (λ found. BeginsOp (32 ∷ bytes.now) (op_made found.0 numbers.new.items) found.1.now) }
-    ensures shorter { IfSome result (λ found. length found.1.now ≤ length bytes.now) }
-{
-    let name = amo_by_letters(bytes)?;
-    plain_named(name, name.word(), bytes, numbers)
 }
 
 /// The same of one name.

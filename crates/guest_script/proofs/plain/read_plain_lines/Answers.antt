@@ -6,7 +6,8 @@ pub loop-after-preserved : goal.loop-after-preserved
 loop-after-preserved c =
     let (line, begins, grown, shorter) = rw c.in-Some.is at c.in_ok-after.ensures in (
       λ more. c.loop-after.invariant.0 more
-          ∙ step_read c.loop-after.number c.args.in_trace c.loop-after.steps c.read_plain_line.new.lines c.loop-after.rest.now c.in-Some.after.now (line, begins, grown) more,
-      omega (arith, shorter, c.loop-after.invariant.1),
-      omega (arith, shorter, c.loop-after.invariant.2),
+          ∙ step_read c.loop-after.number c.args.in_trace c.loop-after.steps c.read_plain_line.new.lines c.loop-after.rest.now c.in-Some.after.now (line, begins, grown) more
+          ∙ c.in_ok-next.ensures.read more,
+      omega (arith, shorter, c.in_ok-next.ensures.within, c.loop-after.invariant.1),
+      omega (arith, shorter, c.in_ok-next.ensures.shorter, c.loop-after.invariant.2),
     )
