@@ -10,17 +10,17 @@ REFUSED = re.compile(f"(line [0-9]+: )?{NO_MEMORY}|{NO_THREAD}")
 
 
 class Rows:
-    """A program of rows, with what it must print where nothing is refused."""
+    """A program of rows and its words, with what it must print where nothing is refused."""
 
-    def __init__(self, name, room):
-        self.program, self.room, self.made = program_of(name), room, shim(room)
+    def __init__(self, name, room, words=()):
+        self.program, self.words, self.room, self.made = program_of(name), words, room, shim(room)
         self.lines = read(os.path.join(ROOT, "crates", name, "stdout")).splitlines()
 
     def run(self, refused=0, thread=0):
         """A run with that allocation or that thread refused, and how many allocations there were."""
         own = os.path.join(self.room, f"{refused}-{thread}")
         os.mkdir(own)
-        found, sizes = allocating(self.made, own, [], refused, thread, program=self.program)
+        found, sizes = allocating(self.made, own, self.words, refused, thread, program=self.program)
         return found, len(sizes)
 
     def said(self, refused=0, thread=0):
@@ -40,9 +40,9 @@ class Rows:
         return name, text.rpartition(": ")[2]
 
 
-def each_thread(room, name, first):
+def each_thread(rows, first):
     """Each thread refused in turn: its row says so, and the others show what they must. The first row with threads has so many."""
-    rows, said = Rows(name, room), []
+    said = []
     while not said or said[-1] is not None:
         said.append(rows.said(thread=len(said) + 1))
         must(f"thread {len(said)} refused: {said[-1]}", said[-1] is None or said[-1][1] == NO_THREAD)
@@ -105,15 +105,19 @@ class WorkedRows(Test):
 class ThreadRows(Test):
     programs = (program_of("thread_rows"),)
 
+    def rows(self):
+        """Where a thread is refused, one that a gate has wait for it gives up soon."""
+        return Rows("thread_rows", self.room, ["soon"])
+
     @named("thread_rows: each thread refused")
     def test_thread_rows_each_thread_refused(self):
-        each_thread(self.room, "thread_rows", 3)
+        each_thread(self.rows(), 3)
 
     @named("thread_rows: each allocation refused")
     def test_thread_rows_each_allocation_refused(self):
         """Each allocation refused in turn: its row says that there is no memory, or, where it is one of a thread's start, that
         there is no thread. In the first row three requests come after its last thread was started."""
-        rows, last = Rows("thread_rows", self.room), 3
+        rows, last = self.rows(), 3
         _, count = rows.run()
         said = at_once(rows.said, range(1, count + 1))
         reached = [it for it in said if it]
@@ -127,4 +131,4 @@ class LockRows(Test):
 
     @named("lock_rows: each thread refused")
     def test_lock_rows_each_thread_refused(self):
-        each_thread(self.room, "lock_rows", 9)
+        each_thread(Rows("lock_rows", self.room), 9)

@@ -2,11 +2,9 @@
 
 use board_lock::{Receipt, Room};
 use hart_threads::Gate;
-use std::hint;
 use std::sync::atomic::{AtomicUsize, Ordering};
-
-/// How often a gate checks whether the thread has come for which another one waits.
-const LOOKS: u64 = 100_000_000;
+use std::thread;
+use std::time::{Clock, Duration};
 
 /// A question that a gate is asked: by which actor, and how many of its operations were accepted.
 #[derive(Clone, Copy, Debug, PartialEq, Eq)]
@@ -53,41 +51,52 @@ impl Asked {
         self.many.fetch_add(1, Ordering::SeqCst);
     }
 
-    /// Waits until the ordinal was asked, checking this often.
+    /// Whether the ordinal was asked.
     fn is_reached(&self, ordinal: usize) -> bool {
-        for _ in 0..LOOKS {
-            if self.next.load(Ordering::SeqCst) > ordinal {
-                return true;
-            }
-            hint::spin_loop();
-        }
-        false
+        self.next.load(Ordering::SeqCst) > ordinal
     }
 }
 
 /// A gate with holds, which is closed for one turn.
 #[derive(Drop)]
-pub struct Holding<'a> {
+pub struct Holding<'a, R: Clock> {
+    clock: &'a R,
+    /// How often a held thread looks before it gives up.
+    looks: u32,
     holds: &'a [Hold],
     closed: Option<Turn>,
     asked: [Asked; 4],
 }
 
-impl<'a> Holding<'a> {
-    pub fn new(holds: &'a [Hold], closed: Option<Turn>) -> Holding<'a> {
+impl<'a, R: Clock> Holding<'a, R> {
+    pub fn new(
+        clock: &'a R,
+        looks: u32,
+        holds: &'a [Hold],
+        closed: Option<Turn>,
+    ) -> Holding<'a, R> {
         Holding {
+            clock,
+            looks,
             holds,
             closed,
             asked: [Asked::new(), Asked::new(), Asked::new(), Asked::new()],
         }
     }
 
-    /// Waits until the turn's question was asked.
+    /// Waits until the turn's question was asked: it looks, sleeps for a millisecond, and looks again. While it sleeps all other
+    /// threads can go on, however slow the machine is.
     fn waits_for(&self, turn: Turn) -> bool {
-        match self.asked.get(turn.actor) {
-            Some(asked) => asked.is_reached(turn.ordinal),
-            None => false,
+        let Some(asked) = self.asked.get(turn.actor) else {
+            return false;
+        };
+        for _ in 0..self.looks {
+            if asked.is_reached(turn.ordinal) {
+                return true;
+            }
+            thread::sleep(self.clock, Duration::from_millis(1));
         }
+        false
     }
 
     /// How many questions each actor asked.
@@ -109,7 +118,7 @@ impl<'a> Holding<'a> {
     }
 }
 
-impl<'a> Gate for Holding<'a> {
+impl<'a, R: Clock> Gate for Holding<'a, R> {
     ghost use Rattle.std.specs.Prelude.{◌≡◌, false, Some};
 
     ghost lets = { λ gate actor ordinal answer.

@@ -8,6 +8,7 @@ use crate::shown::{ran, show};
 use std::io;
 use std::sync::Wait;
 use std::thread::Threads;
+use std::time::Clock;
 
 /// The turn of an actor with this many accepted operations.
 pub fn turn(actor: usize, ordinal: usize) -> Turn {
@@ -20,30 +21,37 @@ fn hold(turn: Turn, after: Turn) -> Hold {
 }
 
 /// The gate closes for the second operation of the only hart.
-pub fn gate_limit<R: AllocGlobal + Print + Threads + Wait + Sync>(rt: &R) -> io::Result<()> {
-    let gate = Holding::new(&[], Some(turn(0, 1)));
+pub fn gate_limit<R: AllocGlobal + Clock + Print + Threads + Wait + Sync>(
+    rt: &R,
+    looks: u32,
+) -> io::Result<()> {
+    let gate = Holding::new(rt, looks, &[], Some(turn(0, 1)));
     show(rt, "gate-limit", scripts::SHUTDOWN, &gate)
 }
 
 /// Each of two harts comes to its fence call before either makes it: no thread waits for another, and no lock is held.
-pub fn two_fences_cross<R: AllocGlobal + Print + Threads + Wait + Sync>(rt: &R) -> io::Result<()> {
+pub fn two_fences_cross<R: AllocGlobal + Clock + Print + Threads + Wait + Sync>(
+    rt: &R,
+    looks: u32,
+) -> io::Result<()> {
     let holds = [hold(turn(0, 2), turn(1, 1)), hold(turn(1, 1), turn(0, 2))];
     show(
         rt,
         "two_fences_cross",
         scripts::CROSSING,
-        &Holding::new(&holds, None),
+        &Holding::new(rt, looks, &holds, None),
     )
 }
 
 /// The fourth operation of hart 0 comes after two of hart 1 are recorded.
-pub fn held_until_recorded<R: AllocGlobal + Print + Threads + Wait + Sync>(
+pub fn held_until_recorded<R: AllocGlobal + Clock + Print + Threads + Wait + Sync>(
     rt: &R,
+    looks: u32,
 ) -> io::Result<()> {
     let holds = [hold(turn(0, 3), turn(1, 2))];
-    let gate = Holding::new(&holds, None);
+    let gate = Holding::new(rt, looks, &holds, None);
     show(rt, "held_until_recorded", scripts::READING, &gate)?;
-    match ran(rt, scripts::READING, &Holding::new(&holds, None)) {
+    match ran(rt, scripts::READING, &Holding::new(rt, looks, &holds, None)) {
         Ok(run) => {
             let after = is_after(run.board.history(), turn(0, 3), turn(1, 1));
             println!(rt; "recorded before: {after}")
@@ -53,26 +61,33 @@ pub fn held_until_recorded<R: AllocGlobal + Print + Threads + Wait + Sync>(
 }
 
 /// Each actor asks for its operations in order, once for each.
-pub fn asked_in_order<R: AllocGlobal + Print + Threads + Wait + Sync>(rt: &R) -> io::Result<()> {
-    let gate = Holding::new(&[], None);
+pub fn asked_in_order<R: AllocGlobal + Clock + Print + Threads + Wait + Sync>(
+    rt: &R,
+    looks: u32,
+) -> io::Result<()> {
+    let gate = Holding::new(rt, looks, &[], None);
     show(rt, "asked_in_order", scripts::THREE, &gate)?;
     println!(rt; "{:?}", Questions::of(&gate))
 }
 
 /// Hart 1 is let go on with an operation, and the board is rebooted before it: the operation is refused, and what comes next
 /// asks with the same ordinal. The gate closes for the second reboot.
-pub fn refused_asks_again<R: AllocGlobal + Print + Threads + Wait + Sync>(
+pub fn refused_asks_again<R: AllocGlobal + Clock + Print + Threads + Wait + Sync>(
     rt: &R,
+    looks: u32,
 ) -> io::Result<()> {
     let holds = [hold(turn(0, 2), turn(1, 1)), hold(turn(1, 1), turn(0, 3))];
-    let gate = Holding::new(&holds, Some(turn(0, 5)));
+    let gate = Holding::new(rt, looks, &holds, Some(turn(0, 5)));
     show(rt, "refused_asks_again", scripts::REBOOTING, &gate)?;
     println!(rt; "{:?}", Questions::of(&gate))
 }
 
 /// The gate closes for a tick of the clock, whose number comes after the harts': it does no further one.
-pub fn clocks_gate<R: AllocGlobal + Print + Threads + Wait + Sync>(rt: &R) -> io::Result<()> {
-    let gate = Holding::new(&[], Some(turn(1, 1)));
+pub fn clocks_gate<R: AllocGlobal + Clock + Print + Threads + Wait + Sync>(
+    rt: &R,
+    looks: u32,
+) -> io::Result<()> {
+    let gate = Holding::new(rt, looks, &[], Some(turn(1, 1)));
     show(rt, "clocks_gate", scripts::TICKING, &gate)
 }
 
@@ -96,11 +111,12 @@ pub fn hart_2_after_rests() -> [Hold; 3] {
 }
 
 /// A closed gate comes before the power, and before a full history: the clock's gate closes for its first tick.
-pub fn closed_gate_comes_first<R: AllocGlobal + Print + Threads + Wait + Sync>(
+pub fn closed_gate_comes_first<R: AllocGlobal + Clock + Print + Threads + Wait + Sync>(
     rt: &R,
+    looks: u32,
 ) -> io::Result<()> {
-    let gate = Holding::new(&[], Some(turn(1, 0)));
+    let gate = Holding::new(rt, looks, &[], Some(turn(1, 0)));
     show(rt, "closed_gate_and_off", scripts::LEAVING, &gate)?;
-    let gate = Holding::new(&[], Some(turn(1, 0)));
+    let gate = Holding::new(rt, looks, &[], Some(turn(1, 0)));
     show(rt, "closed_gate_and_full", scripts::CROWDED, &gate)
 }

@@ -1,5 +1,8 @@
 //! Rows of programs on threads, some of which a gate holds back. The program prints only what holds of every schedule, and must
 //! print its file stdout.
+//!
+//! With any word, a thread that a gate holds back gives up after some seconds, and not after a minute. So a run ends soon in which
+//! the thread that it waits for was refused (`tests/test_rows.py`).
 #![tactic(auto)]
 
 mod gates;
@@ -13,21 +16,36 @@ use crate::gates::Holding;
 use crate::shown::show;
 use hart_threads::{Gate, Open, RunFault};
 use std::alloc::{AllocError, Global};
+use std::env::FillError;
 use std::io;
+use std::rt::Env;
 use std::sync::Wait;
 use std::thread::Threads;
+use std::time::Clock;
+
+/// How often a held thread looks, a millisecond apart, for the one that it waits for: only a thread that never comes takes so long.
+const LOOKS: u32 = 60_000;
+
+/// The same where a word is given.
+const FEW_LOOKS: u32 = 3_000;
 
 fn main(rt: HostRuntime) -> io::Result<()> {
+    let looks = if has_word(&rt) { FEW_LOOKS } else { LOOKS };
     ends(&rt)?;
     faults(&rt)?;
-    held::gate_limit(&rt)?;
-    held::two_fences_cross(&rt)?;
-    held::held_until_recorded(&rt)?;
-    held::asked_in_order(&rt)?;
-    held::refused_asks_again(&rt)?;
-    held::clocks_gate(&rt)?;
-    held::closed_gate_comes_first(&rt)?;
-    many_ticks(&rt)
+    held::gate_limit(&rt, looks)?;
+    held::two_fences_cross(&rt, looks)?;
+    held::held_until_recorded(&rt, looks)?;
+    held::asked_in_order(&rt, looks)?;
+    held::refused_asks_again(&rt, looks)?;
+    held::clocks_gate(&rt, looks)?;
+    held::closed_gate_comes_first(&rt, looks)?;
+    many_ticks(&rt, looks)
+}
+
+/// Whether a word is given. (No memory is taken for it.)
+fn has_word<R: Env>(rt: &R) -> bool {
+    !matches!(rt.arg(1, &mut [0; 64]), Err(FillError::NotPresent))
 }
 
 /// A run with each end but the gate's.
@@ -50,7 +68,10 @@ fn ends<R: AllocGlobal + Print + Threads + Wait + Sync>(rt: &R) -> io::Result<()
 }
 
 /// A clock does all of three thousand ticks, or as many as there is room for beside a hart that is through.
-fn many_ticks<R: AllocGlobal + Print + Threads + Wait + Sync>(rt: &R) -> io::Result<()> {
+fn many_ticks<R: AllocGlobal + Clock + Print + Threads + Wait + Sync>(
+    rt: &R,
+    looks: u32,
+) -> io::Result<()> {
     let lines = (3000, scripts::TICK_LINE);
     show_with(rt, "many_ticks", scripts::CLOCK, lines, &Open)?;
     let lines = (3000, scripts::NO_TIME);
@@ -61,13 +82,14 @@ fn many_ticks<R: AllocGlobal + Print + Threads + Wait + Sync>(rt: &R) -> io::Res
         lines,
         &Open,
     )?;
-    rests_before_the_clock(rt)?;
-    gate_of_one(rt)
+    rests_before_the_clock(rt, looks)?;
+    gate_of_one(rt, looks)
 }
 
 /// Harts rest until a deadline, and meanwhile the clock is held back from its first tick, which wakes all of them.
-fn rests_before_the_clock<R: AllocGlobal + Print + Threads + Wait + Sync>(
+fn rests_before_the_clock<R: AllocGlobal + Clock + Print + Threads + Wait + Sync>(
     rt: &R,
+    looks: u32,
 ) -> io::Result<()> {
     let holds = held::clock_after_rests();
     show_with(
@@ -75,19 +97,22 @@ fn rests_before_the_clock<R: AllocGlobal + Print + Threads + Wait + Sync>(
         "rests_before_the_clock",
         scripts::RESTING,
         (2000, scripts::SIP_LINE),
-        &Holding::new(&holds, None),
+        &Holding::new(rt, looks, &holds, None),
     )
 }
 
 /// The gate closes for one actor, a hart or the clock, while a hart rests; long after that another actor wakes this one, which
 /// goes on.
-fn gate_of_one<R: AllocGlobal + Print + Threads + Wait + Sync>(rt: &R) -> io::Result<()> {
+fn gate_of_one<R: AllocGlobal + Clock + Print + Threads + Wait + Sync>(
+    rt: &R,
+    looks: u32,
+) -> io::Result<()> {
     let lines = (2000, scripts::SIP_LINE);
     let holds = held::clock_after_rests();
-    let gate = Holding::new(&holds, Some(held::turn(2, 2)));
+    let gate = Holding::new(rt, looks, &holds, Some(held::turn(2, 2)));
     show_with(rt, "gate_of_a_hart", scripts::RESTING, lines, &gate)?;
     let holds = held::hart_2_after_rests();
-    let gate = Holding::new(&holds, Some(held::turn(3, 0)));
+    let gate = Holding::new(rt, looks, &holds, Some(held::turn(3, 0)));
     show_with(
         rt,
         "gate_of_the_clock",

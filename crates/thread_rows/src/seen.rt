@@ -4,6 +4,7 @@ use crate::gates::Holding;
 use board_core::{Board, Event, Op};
 use guest_script::ScriptFault;
 use hart_threads::{End, RunEnd, RunFault};
+use std::time::Clock;
 use thiserror::Error;
 
 /// What a run shows that is the same whatever the schedule was.
@@ -40,7 +41,7 @@ pub struct Questions {
 }
 
 impl Questions {
-    pub fn of(gate: &Holding<'_>) -> Questions {
+    pub fn of<R: Clock>(gate: &Holding<'_, R>) -> Questions {
         Questions {
             of: gate.questions(),
             in_order: gate.is_in_order(),
