@@ -182,18 +182,18 @@ class Differences:
     def look_at_notes(self, state, line, is_start):
         """What the hart's registers had at its entry, beside what the board's have."""
         board, hart = state.board, line.hart
-        if line.notes.get("satp"):
-            state.put(Difference(line.number, f"{self.id(hart)} entry: satp", "0x0", f"{line.notes['satp']:#x}", verdict_of("no satp"), None))
-        here = {"sie": board.harts[hart].sie, "sip": board.sip(hart), "sstatus": board.harts[hart].sstatus}
-        for name, value in here.items():
-            there = line.notes.get(name)
-            if there is None:
-                continue
-            there &= READ_SIE if name != "sstatus" else 1
+        self.look_at_zeros(state, line)
+        for name, value in (("sie", board.harts[hart].sie), ("sip", board.sip(hart))):
+            there = line.notes.get(name, value) & READ_SIE
             if there != value:
                 rule = rule_of_entry(name, is_start, value, there)
-                verdict = verdict_of(rule) if rule else SSTATUS
-                state.put(Difference(line.number, f"{self.id(hart)} entry: {name}", f"{value:#x}", f"{there:#x}", verdict, None))
+                state.put(Difference(line.number, f"{self.id(hart)} entry: {name}", f"{value:#x}", f"{there:#x}", verdict_of(rule), None))
+
+    def look_at_zeros(self, state, line):
+        """What is 0 at an entry, however the hart came to it."""
+        for name, there, verdict in (("satp", line.notes.get("satp", 0), verdict_of("no satp")), ("sstatus", line.notes.get("sstatus", 0) & 1, SSTATUS)):
+            if there:
+                state.put(Difference(line.number, f"{self.id(line.hart)} entry: {name}", "0x0", f"{there:#x}", verdict, None))
 
     def by_its_state(self, state, call, shown):
         """The rule that excuses an answer in this state, by what overlaps with its call."""

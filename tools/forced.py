@@ -29,6 +29,7 @@ class Forced(Ways):
 
     def forced_entry(self, state, line):
         hart, call = line.hart, state.calls.get(line.hart)
+        self.look_at_zeros(state, line)
         if call is not None and call.answer is None:
             self.effect(state, hart)
         self.catch_up(state, hart)

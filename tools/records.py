@@ -206,7 +206,7 @@ def listed(record, pair):
 
 def join(lines):
     """Joins each call with its return, and each line with the hart's next one."""
-    last, calls, entered, since = {}, {}, set(), "before this line"
+    last, calls, times, entered, since = {}, {}, {}, set(), "before this line"
     if lines and lines[0].kind != "entry":
         raise Broken(lines[0].number, "the first line of a hart is the entry of the one that boots")
     for place, line in enumerate(lines):
@@ -219,6 +219,7 @@ def join(lines):
         if line.kind == "entry":
             entered.add(hart)
             calls.pop(hart, None)
+            times.pop(hart, None)
         elif line.kind == "call":
             if hart in calls:
                 raise Broken(line.number, nested(hart, lines[calls[hart]].number))
@@ -227,6 +228,9 @@ def join(lines):
             if hart not in calls:
                 raise Broken(line.number, f"a reply without its call: hart {hart} is in none")
             lines[calls.pop(hart)].reply = place
+        if line.notes.get("time", ALL) < times.get(hart, 0):
+            raise Broken(line.number, f"hart {hart}'s time goes back, from {times[hart]:#x} to {line.notes['time']:#x}")
+        times[hart] = line.notes.get("time", times.get(hart, 0))
         if hart in last:
             lines[last[hart]].then = place
         last[hart] = place

@@ -45,8 +45,8 @@ class Registers:
     # ---- registers that a call changes
 
     def unkept(self, hart):
-        """Calls whose registers were seen at their return too, and are others. An IPI may come in between, and the legacy extensions
-        may clear SSIP."""
+        """Calls whose registers were seen at their return too, and are others. An IPI or a deadline may come in between, the legacy
+        extensions may clear SSIP, and set_timer clears STIP."""
         for call, ret in self.returned(hart):
             for name, bits in (("sie", READ_SIE), ("sstatus", 1), ("sip", SSI)):
                 was, now = (line.notes.get(name) for line in (call, ret))
@@ -54,6 +54,9 @@ class Registers:
                     continue
                 if (was ^ now) & bits:
                     yield self.told(call, name, was & bits, now & bits, "registers")
+            was, now = (line.notes.get("sip", 0) for line in (call, ret))
+            if was & STI and "sip" in ret.notes and not now & STI and call.numbers[0] not in (TIME, SET_TIMER):
+                yield self.told(call, "STIP", 1, 0, "timers")
 
     # ---- timers
 
