@@ -97,6 +97,8 @@ WRONG = [
     ("a hart that isn't there, with a state", TWO + answered(HSM, 2, 9), "breaks", 6),
     ("an id that is cut", TWO + answered(HSM, 2, 1 << 32), "breaks", 6),
     ("a started hart, started", TWO + answered(HSM, 0, 1, 0x80200100), "breaks", 6),
+    ("a started hart, started beyond the board's RAM", TWO + answered(HSM, 0, 1, 0x80a00000), "breaks", 6),
+    ("a suspended hart, started beyond the board's RAM", TWO + DOZES + answered(HSM, 0, 1, 0x80a00000) + SENDS + "1 ret 0 0 sip=0x2\n", UNEXPLAINED, 7),
     ("a started hart that is invalid", TWO + answered(HSM, 0, 1, 0x80200100, ret="-3 0"), UNEXPLAINED, 6),
     ("a stopped hart that isn't available", TWO + answered(HSM, 0, 2, 0x80200100, ret="-6 0"), UNEXPLAINED, 6),
     ("an error of the timer", TWO + answered(TIME, 0, 5, ret="-3 0"), UNEXPLAINED, 6),
@@ -151,6 +153,9 @@ WRONG = [
     ("an extension that isn't there, and then works", TWO + answered(IPI, 0, 1, ret="-2 0") + answered(IPI, 0, 1), "breaks", 6),
     ("an extension of which a function isn't there", TWO + answered(RFENCE, 0, 3) + answered(RFENCE, 1, 3, ret="-2 0"), "breaks", 8),
     ("a probe that denies what works", TWO + answered(TIME, 0, 5) + answered(BASE, 3, TIME), "breaks", 8),
+    *((f"a probe that denies what {what}", TWO + answered(BASE, 3, eid) + made, "breaks", 6) for what, eid, made in (
+        ("stopped a hart", HSM, call(HSM, 1, hart=1) + answered(HSM, 0, 1, 0x80200100, 9) + "1 entry 0x80200100 1 9\n"),
+        ("rebooted", SRST, call(SRST, 0, 1) + "0 entry 0x80200000 0 0x87e00000\n"), ("switched off", SRST, call(SRST, 0, 0) + "m end off\n"))),
     ("a probe that denies what another one told", TWO + answered(BASE, 3, SRST, ret="0 1") + answered(BASE, 3, SRST), "breaks", 8),
     *((f"function {fid} of Base, which tells otherwise later", TWO + answered(BASE, fid, ret="0 0x1000000") + answered(BASE, fid, ret="0 0x2000000"), "breaks", 8) for fid in (0, 1, 2, 4, 5, 6)),
     ("a satp at an entry", TWO.replace("1 entry 0x80200100 1 7", "1 entry 0x80200100 1 7 satp=0x8000000000080400"), "breaks", 5),
@@ -269,6 +274,7 @@ TOLD = [
     *((f"a list that is refused, of {what}", TWO + answered(*send, ret="-3 0"), "open", 6)
       for what, send in (("no hart", (IPI, 0, 0)), ("a stopped hart", (IPI, 0, 6)), ("a stopped hart to fence", (RFENCE, 1, 4, 0, 0x1000, 0x1000)))),
     ("a list that is refused, of a hart that enters meanwhile", TWO + call(IPI, 0, 4) + answered(HSM, 0, 2, 0x80200100, 7, hart=1) + "2 entry 0x80200100 2 7\n0 ret -3 0\n", "open", 6),
+    ("a probe that denies a reset that may never come", TWO + answered(BASE, 3, SRST) + call(SRST, 0, 0) + "m end limit\n", "open", 6),
     ("a start that failed, and the next one", TWO + answered(HSM, 0, 2, 0x80200100, 7, ret="-1 0") + answered(HSM, 0, 2, 0x80200100, 7) + "2 entry 0x80200100 2 7\n", "open", 6),
     ("ids of two harts' machines", TWO + answered(BASE, 4, ret="0 1") + answered(BASE, 4, ret="0 2", hart=1), "open", 6),
     ("an IPI that comes behind a fence's wake", TWO + DOZES + answered(RFENCE, 0, 2) + SENDS + "1 ret 0 0 sie=0x2 sip=0x0 time=80\n", None, 0),

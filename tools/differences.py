@@ -37,15 +37,22 @@ class Differences:
         for place, line in enumerate(self.lines):
             if line.hart is not None:
                 self.places[line.hart].append(place)
-        # What the firmware says of itself: the version of the specification, and which extensions it has, by a probe or by another answer
-        # than NOT_SUPPORTED.
+        # What the firmware says of itself: the version of the specification, and which extensions it has, by a probe, by another answer
+        # than NOT_SUPPORTED, or by a call that has stopped, suspended or reset.
         told = [(line.numbers, self.lines[line.reply].numbers) for line in self.lines if line.kind == "call" and line.reply is not None]
         said = [value for numbers, (error, value) in told if numbers[:2] == (BASE, 0) and error == 0 and value < 1 << 31]
         self.version = version or (version_of(said[0]) if said else (1, 0))
         self.offered = {numbers[2] for numbers, (error, value) in told if numbers[:2] == (BASE, 3) and error == 0 and value}
         self.offered |= {numbers[0] for numbers, (error, _) in told if numbers[:2] in FUNCTIONS and error not in (None, NOT_SUPPORTED)}
+        self.offered |= {line.numbers[0] for line in self.lines if line.kind == "call" and self.has_left(line)}
 
     # ---- what was recorded
+
+    def has_left(self, line):
+        """Whether a call without a return did what it was asked: its hart entered behind it, or the machine is off."""
+        if line.reply is not None or line.numbers[:2] not in FUNCTIONS:
+            return False
+        return self.record.end == "off" and is_reset(line.numbers) if line.then is None else self.lines[line.then].kind == "entry"
 
     def shown(self, place):
         """What a call answered, in the words of a board; None where the record doesn't tell. A value that the standard

@@ -205,7 +205,8 @@ def of_start(board, a, here, there):
         # (of several errors the standard leaves open which one comes)
         state, said = board.harts[a[0]].state if a[0] < len(board.harts) else STOPPED, there[:2]
         is_other = said == ("ret", ALREADY_AVAILABLE) and state != STOPPED or said == ("ret", INVALID_PARAM) and state not in (STARTED, STOPPED)
-        return "already available" if is_other else "addresses"
+        # (no address starts a hart that runs)
+        return "already available" if is_other else None if said == ("ret", 0) and state in INTERRUPTIBLE else "addresses"
     if error == ALREADY_AVAILABLE and there[:2] == ("ret", INVALID_PARAM) and board.harts[a[0]].state != STARTED:
         return "already available"
     return {FAILED: "unknown reasons", NOT_SUPPORTED: "optional"}.get(there[1] if there[0] == "ret" else 0)
