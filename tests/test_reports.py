@@ -275,6 +275,8 @@ TOLD = [
       for what, send in (("no hart", (IPI, 0, 0)), ("a stopped hart", (IPI, 0, 6)), ("a stopped hart to fence", (RFENCE, 1, 4, 0, 0x1000, 0x1000)))),
     ("a list that is refused, of a hart that enters meanwhile", TWO + call(IPI, 0, 4) + answered(HSM, 0, 2, 0x80200100, 7, hart=1) + "2 entry 0x80200100 2 7\n0 ret -3 0\n", "open", 6),
     ("a probe that denies a reset that may never come", TWO + answered(BASE, 3, SRST) + call(SRST, 0, 0) + "m end limit\n", "open", 6),
+    ("a reset while the one hart sleeps", BOOT.replace("3", "1", 1) + call(HSM, 3, 0) + "m reset\n0 entry 0x80200000 0 0x87e00000\n" + answered(TIME, 0, 5), None, 0),
+    ("a reset while all harts sleep", TWO + answered(HSM, 2, 1) + DOZES + answered(HSM, 2, 1, ret="0 4") + call(HSM, 3, 1 << 31, 0x80200100) + "m reset\n0 entry 0x80200000 0 0x87e00000\n", None, 0),
     ("a start that failed, and the next one", TWO + answered(HSM, 0, 2, 0x80200100, 7, ret="-1 0") + answered(HSM, 0, 2, 0x80200100, 7) + "2 entry 0x80200100 2 7\n", "open", 6),
     ("ids of two harts' machines", TWO + answered(BASE, 4, ret="0 1") + answered(BASE, 4, ret="0 2", hart=1), "open", 6),
     ("an IPI that comes behind a fence's wake", TWO + DOZES + answered(RFENCE, 0, 2) + SENDS + "1 ret 0 0 sie=0x2 sip=0x0 time=80\n", None, 0),

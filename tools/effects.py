@@ -7,7 +7,7 @@ from board_model import (
 )  # fmt: skip
 from differences import Differences, is_refusal
 from numbers_here import Numbers
-from records import Broken, is_reset, is_suspend
+from records import is_reset, is_suspend
 from registers import READ_SIE
 from rules import verdict_of
 from states import Difference, Open
@@ -216,9 +216,10 @@ class Effects(Differences):
         return answer
 
     def was_reset(self, state, line):
+        """The machine was reset by no call: a hart of the board asks for it; None where none could."""
         actor = next((h for h, it in enumerate(state.board.harts) if it.state == STARTED and it.outstanding is None), None)
         if actor is None:
-            raise Broken(line.number, "the machine is reset while no hart of the board could ask for it")
+            return None
         state.do(actor, ("ecall", SRST, 0, 1, 0), line.number, f"line {line.number}: a reset by no call, put in as a cold reboot")
         state.forget()
         return state

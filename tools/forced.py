@@ -1,7 +1,7 @@
 """Where no way of a line fits: it happened, and the board does otherwise. The difference is kept, and the board goes on with its own
 answer, or as the record shows."""
 from board_model import HSM, IPI, RESUME_PENDING, RFENCE, SSI, SUSPEND_PENDING, SUSPENDED, WAITING, spelled_answer
-from records import is_suspend
+from records import Broken, is_suspend
 from rules import UNEXPLAINED_VERDICT
 from states import Difference
 from ways import Ways
@@ -11,6 +11,8 @@ class Forced(Ways):
     def forced(self, state, place):
         """The line happened, and the board does otherwise: the difference is kept, and the board goes on with its own answer."""
         line = self.lines[place]
+        if line.kind == "reset":
+            raise Broken(line.number, "the machine is reset while no hart of the board could ask for it")
         state = self.prepared(state, line)
         hart = line.hart
         if line.kind == "call":

@@ -39,8 +39,8 @@ class Ways(Effects):
             yield from self.reached(self.prepared(state, line), place, self.returned)
         elif line.kind == "entry":
             yield from self.reached(self.prepared(state, line), place, self.entered)
-        else:
-            yield self.was_reset(state.copy(), line)
+        elif (done := self.was_reset(state.copy(), line)) is not None:
+            yield done
 
     def resumes(self, line):
         return line.reply is None and line.then is not None and self.lines[line.then].kind == "entry"
