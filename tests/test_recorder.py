@@ -276,6 +276,11 @@ class Recorders(Test):
         wanted = [f"time={at:#x} sie={it['sie']:#x} sip={it['sip']:#x} sstatus={it['sstatus'] >> 1 & 1}" for at, it in enumerate(registers, 1)]
         wanted[0] += " satp=0x7"
         must(f"the notes are {notes}, and not {wanted}", notes == [*wanted, ""])
+        # (that a kernel may write stimecmp: csrw stimecmp, a0 at any two bytes; csrr a0, stimecmp only reads)
+        writes, reads, allowed = b"\1\0\x73\x10\xd5\x14", b"\x73\x25\xd0\x14", 1 << 63 | 0xF0
+        for code, menvcfg, may in ((writes, allowed, True), (writes, 0xF0, False), (reads, allowed, False), (writes[1:], allowed, False), (elf_at(0x80200000).ljust(120, b"\0") + writes, allowed, False)):
+            _, lines = recorded(self.room, Play("", [{**enters(0), "menvcfg": menvcfg}, OFF], [], harts=1), code)
+            must(f"{code}: {lines}", ("sstc=1" in lines[0].split()) == may)
 
     def test_recorder__what_is_typed(self):
         """A line is typed once the console has printed what it waits for, behind what the line before waited for; each once, and in order."""

@@ -58,6 +58,8 @@ DOZES, SENDS = call(HSM, 3, 0, hart=1)[:-1] + " sie=0x2 sip=0x0 time=50\n", call
 TOLD_STARTED = f"{call(HSM, 2, 1)[:-1]} time={{}}\n0 ret 0 0 time={{}}\n"
 # A suspend that an external interrupt may end.
 SLEEPS = call(HSM, 3, 0, hart=1)[:-1] + " sie=0x200 sip=0x0\n"
+# A kernel that may write stimecmp.
+MAY_WRITE = TWO.replace("1 entry 0x80200100 1 7", "1 entry 0x80200100 1 7 sstc=1")
 # A non-retentive suspend that one ends, and one that a deadline ends that no call set.
 FAR_RESUME = call(HSM, 3, 1 << 31, 0x80200100, 9, hart=1) + "1 entry 0x80200100 1 9 sip=0x200"
 OWN_DEADLINE = call(HSM, 3, 0, hart=1)[:-1] + " sie=0x20 sip=0x0\n1 ret 0 0 sie=0x20 sip=0x20\n"
@@ -252,6 +254,9 @@ TOLD = [
     ("a wake by an external interrupt", TWO + SLEEPS + "1 ret 0 0 sie=0x200 sip=0x200\n", "own", 7),
     ("a resume by an external interrupt", TWO + FAR_RESUME + "\n", "own", 7),
     ("a wake by a deadline that no call set", TWO + OWN_DEADLINE, "own", 7),
+    ("a wake by a deadline that the kernel has changed itself", MAY_WRITE + answered(TIME, 0, ALL, hart=1) + OWN_DEADLINE, "own", 9),
+    ("a timer that comes early, by the kernel's own deadline", MAY_WRITE + noted(TIME, 0, 90, was="time=50", now="sip=0x0 time=60") + at(70, "sip=0x20") + "0 ret 0 0x1000000 time=80\n", "unjudged", 6),
+    ("a timer that never comes, by the kernel's own deadline", MAY_WRITE + DUE + at(LATE, "sip=0x0"), "unjudged", 6),
     ("a vendor's extension", TWO + answered(0x09000001, 0, ret="0 7"), "unjudged", 6),
     ("a firmware's own extension that is there by the probe", TWO + answered(BASE, 3, 0x0A000001, ret="0 1"), "own", 6),
     ("an extension that is there by the probe of a cut id", TWO + answered(BASE, 3, 1 << 32 | TIME, ret="0 1"), "open", 6),

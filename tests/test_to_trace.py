@@ -148,7 +148,7 @@ BROKEN = [
     (ENTRY + CALL + "0 ret 0 0x10000000000000000\n", 4, "0x10000000000000000 is more than 64 bits"),
     *((ENTRY + CALL + f"0 ret {it} 0\n", 4, f"{it} is no error: errors are -2^63 to 2^63-1") for it in ("0xfffffffffffffffe", "9223372036854775808", "-0x8000000000000001", "-0x1ffffffffffffffff")),
     (ENTRY + "0 entry 0x10000000000000000 0 0\n", 3, "0x10000000000000000 is more than 64 bits"),
-    (ENTRY + "0 entry 0 0 0 tim=4\n", 3, "'tim=4' is no note; notes are time=, sie=, sip=, sstatus=, satp=, pc=, ra=, ra2=, ra3=, ra4=, ra5=, ra6=, ra7=, ra8=, firmware="),
+    (ENTRY + "0 entry 0 0 0 tim=4\n", 3, "'tim=4' is no note; notes are time=, sie=, sip=, sstatus=, satp=, sstc=, pc=, ra=, ra2=, ra3=, ra4=, ra5=, ra6=, ra7=, ra8=, firmware="),
     (ENTRY + "0 entry 0 0 0 time=4 time=4\n", 3, "a second note time="),
     (ENTRY + CALL.replace("\n", " time=9\n") + "0 ret 0 0 time=8\n", 4, "hart 0's time goes back, from 0x9 to 0x8"),
     (ENTRY + "m stop\n", 3, "the machine's lines are 'm reset', 'm store ADDRESS VALUE' and 'm end limit|off|closed'"),

@@ -253,7 +253,7 @@ class Differences:
 
     def of_wake(self, state, hart, line):
         """What woke a hart that sleeps here. line: that at which it went on there, or None."""
-        rule = rule_of_wake(state, hart, line.notes.get("sip", 0) if line else 0)
+        rule = rule_of_wake(state, hart, line.notes.get("sip", 0) if line else 0, self.record.has_stimecmp)
         return verdict_of(rule) if rule else None
 
 

@@ -3,7 +3,7 @@ from board_model import ALL, HSM, IPI, RFENCE, SRST
 
 # Return addresses of callers, from the innermost one.
 CALLERS = ("ra", *(f"ra{place}" for place in range(2, 9)))
-NOTES = ("time", "sie", "sip", "sstatus", "satp", "pc", *CALLERS, "firmware")
+NOTES = ("time", "sie", "sip", "sstatus", "satp", "sstc", "pc", *CALLERS, "firmware")
 COUNTS = {"call": 8, "ret": 2, "entry": 3, "satp": 1, "sfence": 2, "fencei": 0, "sinval": 2, "winval": 0, "invalir": 0}
 # Lines of page tables, which a trace has nothing of.
 OF_TABLES = ("satp", "sfence", "fencei", "sinval", "winval", "invalir", "store")
@@ -42,6 +42,7 @@ class Record:
         self.place_of = {number: place for place, number in enumerate(ids)}
         self.has_times = any("time" in line.notes for line in lines)
         self.has_sie = any("sie" in line.notes for line in lines)
+        self.has_stimecmp = any(line.notes.get("sstc") for line in lines)
 
 
 def number_of(word, at, is_error=False):

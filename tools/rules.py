@@ -253,14 +253,15 @@ def rule_of_entry(name, is_start, here, there):
     return ("deadlines" if (here ^ there) & ~SSI else "starts clear") if is_start else "resumes keep"
 
 
-def rule_of_wake(state, hart, sip):
-    """A suspended hart went on there, and has nothing to wake it here. sip: what it had there when it went on."""
+def rule_of_wake(state, hart, sip, has_stimecmp):
+    """A suspended hart went on there, and has nothing to wake it here. sip: what it had there when it went on. has_stimecmp: its
+    kernel may have set the deadline itself."""
     it = state.board.harts[hart]
     if it.state not in (SUSPENDED, SUSPEND_PENDING):
         return None
     if sip & SEI:
         return "externals"
-    if sip & STI and it.deadline is None:
+    if sip & STI and (has_stimecmp or it.deadline is None):
         return "stimecmp"
     if state.board.sip(hart):
         return "wake"
