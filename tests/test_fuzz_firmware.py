@@ -8,7 +8,9 @@ import io
 import os
 import re
 import shutil
+import signal
 import subprocess
+import time
 from collections import Counter
 from unittest import SkipTest, mock
 
@@ -239,6 +241,26 @@ class FuzzFirmware(Test):
             said = f"1 seeds: nothing was printed: the payload; the first is 1: {ended} before the payload printed its record; the last line is '# fuzz: begun'\n"
             must(f"status {found.returncode}, and it said {found.stdout} {found.stderr}", found.returncode == 5 and said in found.stdout)
 
+    def test_fuzz__an_interrupted_run(self):
+        """A run that is ended by a signal ends its machine, and tells how far it came: that is no success."""
+        image = write(os.path.join(self.room, "image"), fuzzing.MARK + bytes(8 * len(fuzzing.FIELDS) + fuzzing.MOST_HARTS * fuzzing.MOST_OPERATIONS // 8))
+        machine, begun = os.path.join(self.room, "qemu-system-riscv64"), os.path.join(self.room, "begun")
+        write(machine, f"#!/bin/sh\n[ -e {begun} ] || {{ echo $$ > {begun}; exit 0; }}\necho $$ > {begun}.again\nexec sleep 60\n")
+        os.chmod(machine, 0o755)
+        words = [TOOL, "--seeds", "3-9", "--image", image, "--runs", "0", "--keep", self.room]
+        for by in (signal.SIGINT, signal.SIGTERM):
+            run = subprocess.Popen(words, stdin=subprocess.DEVNULL, stdout=subprocess.PIPE, text=True, env=os.environ | {"PATH": f"{self.room}:{os.environ['PATH']}"})
+            until = time.monotonic() + 60
+            while not (os.path.exists(f"{begun}.again") and read(f"{begun}.again")) and time.monotonic() < until:
+                time.sleep(0.05)
+            run.send_signal(by)
+            said = run.communicate(timeout=60)[0]
+            must(f"{by}: status {run.returncode}, and it said {said}", run.returncode == 5 and "\nstopped in seed 4, before the end\nseeds 1, calls and entries 0, " in said)
+            with self.assertRaises(ProcessLookupError):
+                os.kill(int(read(f"{begun}.again")), 0)
+            os.remove(begun)
+            os.remove(f"{begun}.again")
+
     def test_fuzz__what_is_summed(self):
         """Of several seeds each is tried, and each fault is told with how many have it and the first; a function that no run tried is told, and is no success."""
         every = Counter({function.name: 2 for function in FUNCTIONS.values()})
@@ -259,6 +281,11 @@ class FuzzFirmware(Test):
             must(f"{words}: {os.listdir(self.room)}", {f"seed-{seed}.record" for seed in found} == set(os.listdir(self.room)))
             for it in os.listdir(self.room):
                 os.remove(os.path.join(self.room, it))
+        # (one that is interrupted is no success, though all was tried and nothing is wrong)
+        given.seeds, runs = fuzz.seeds("1-4"), Judged({}, every)
+        with contextlib.redirect_stdout(io.StringIO()) as said, mock.patch.object(runs, "run", lambda asked, run=runs.run: fuzz.interrupted() if asked.seed == 3 else run(asked)):
+            ended = fuzz.fuzzed(runs, given)
+        must(f"status {ended}, {said.getvalue()}", ended == 3 and said.getvalue().startswith("stopped in seed 3, before the end\nseeds 2, "))
 
     def test_fuzz__the_same_faults_by_gdb(self):
         """A fault that comes with a call alone must be in both runs of a seed, unless one of them hung before the call."""

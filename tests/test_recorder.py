@@ -5,6 +5,7 @@ import json
 import os
 import re
 import shutil
+import struct
 import subprocess
 from unittest import SkipTest, mock
 
@@ -122,6 +123,12 @@ PLAYS = [
 ]  # fmt: skip
 
 
+def elf_at(*addresses):
+    """An ELF file with a segment at each of these physical addresses, and all of them at virtual ones from 0 on."""
+    head = b"\x7fELF\x02\x01".ljust(32, b"\0") + struct.pack("<QQIHHHHHH", 64, 0, 0, 64, 56, len(addresses), 64, 0, 0)
+    return head + b"".join(struct.pack("<IIQQQQQQ", 1, 5, 0, at, address, 4, 4, 4096) for at, address in enumerate(addresses))
+
+
 def numbers_of(seed):
     """Eight numbers of a call, each another one."""
     return [(seed * 8 + at) * 0x0123_4567_89AB_CDEF & M64 for at in range(1, 9)]
@@ -222,7 +229,7 @@ class Recorders(Test):
             if found.returncode != 1 or not found.stderr.startswith(b"record: ") or lines or os.path.exists(os.path.join(self.room, "play.ran")):
                 raise AssertionError(f"with {words} status {found.returncode}, and it said {shown(found.stderr)}")
         found, lines = recorded(self.room, Play("", [{"ends": "no machine"}], []))
-        must(f"of nothing: status {found.returncode}, and it said {shown(found.stderr)}", found.returncode == 1 and b"record: nothing was recorded; gdb said: no machine" in found.stderr and not lines)
+        must(f"of nothing: status {found.returncode}, and it said {shown(found.stderr)}", found.returncode == 1 and b"record: nothing was recorded: no hart came to 0x80200000 (--entry); gdb said: no machine" in found.stderr and not lines)
         found, lines = recorded(self.room, Play("", [{"waits": 60}], [], words=("--seconds", "1", "--grace", "0")))
         must(f"of nothing in time: status {found.returncode}, and it said {shown(found.stderr)}", found.returncode == 1 and b"record: nothing was recorded before the limit of 1 s was over" in found.stderr and not lines)
 
@@ -237,6 +244,12 @@ class Recorders(Test):
             must(f"{words}: {given}", [value(it) for it in ("-machine", "-smp", "-m", "-bios", "-kernel")] == ["virt", str(harts), memory, image, image] and ("-dtb" in given) == has_tree)
             must(f"{words}: {given}, {lines}", (not has_tree or value("-dtb") == tree) and not found.returncode and lines[0].startswith(f"0 entry {entry:#x} 0x0 0x7"))
             os.remove(os.path.join(self.room, "play.ran"))
+            os.remove(os.path.join(self.room, "out"))
+        # (of an ELF file it is the lowest address, and of one that is cut that of a raw image)
+        elf = elf_at(0x80400000, 0x80300000, 0x80500000)
+        for data, words, entry in ((elf, (), 0x80300000), (elf, ("--entry", "0x80400000"), 0x80400000), (elf[:100], (), ENTRY)):
+            _, lines = recorded(self.room, Play("", [enters(0, entry), OFF], [], words=words), data)
+            must(f"{words}: {lines}", lines[0].startswith(f"0 entry {entry:#x} 0x0 0x7"))
             os.remove(os.path.join(self.room, "out"))
         # (the head names the image and the firmware, each for itself)
         data, other = "an image of its own", write(os.path.join(self.room, "firmware"), "a firmware")
@@ -263,6 +276,11 @@ class Recorders(Test):
         wanted = [f"time={at:#x} sie={it['sie']:#x} sip={it['sip']:#x} sstatus={it['sstatus'] >> 1 & 1}" for at, it in enumerate(registers, 1)]
         wanted[0] += " satp=0x7"
         must(f"the notes are {notes}, and not {wanted}", notes == [*wanted, ""])
+        # (that a kernel may write stimecmp: csrw stimecmp, a0 at any two bytes; csrr a0, stimecmp only reads)
+        writes, reads, allowed = b"\1\0\x73\x10\xd5\x14", b"\x73\x25\xd0\x14", 1 << 63 | 0xF0
+        for code, menvcfg, may in ((writes, allowed, True), (writes, 0xF0, False), (reads, allowed, False), (writes[1:], allowed, False), (elf_at(0x80200000).ljust(120, b"\0") + writes, allowed, False)):
+            _, lines = recorded(self.room, Play("", [{**enters(0), "menvcfg": menvcfg}, OFF], [], harts=1), code)
+            must(f"{code}: {lines}", ("sstc=1" in lines[0].split()) == may)
 
     def test_recorder__what_is_typed(self):
         """A line is typed once the console has printed what it waits for, behind what the line before waited for; each once, and in order."""

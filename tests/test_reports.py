@@ -58,6 +58,11 @@ DOZES, SENDS = call(HSM, 3, 0, hart=1)[:-1] + " sie=0x2 sip=0x0 time=50\n", call
 TOLD_STARTED = f"{call(HSM, 2, 1)[:-1]} time={{}}\n0 ret 0 0 time={{}}\n"
 # A suspend that an external interrupt may end.
 SLEEPS = call(HSM, 3, 0, hart=1)[:-1] + " sie=0x200 sip=0x0\n"
+# A kernel that may write stimecmp.
+MAY_WRITE = TWO.replace("1 entry 0x80200100 1 7", "1 entry 0x80200100 1 7 sstc=1")
+# A non-retentive suspend that one ends, and one that a deadline ends that no call set.
+FAR_RESUME = call(HSM, 3, 1 << 31, 0x80200100, 9, hart=1) + "1 entry 0x80200100 1 9 sip=0x200"
+OWN_DEADLINE = call(HSM, 3, 0, hart=1)[:-1] + " sie=0x20 sip=0x0\n1 ret 0 0 sie=0x20 sip=0x20\n"
 # A stop whose hart is still STARTED for a while, and before that is seen, an answer that differs.
 STOPS = TWO + call(HSM, 1, hart=1) + "..0 call 0x48534d 2 1 0 0 0 0 0\n0 ret 0 0\n"
 # A suspend that fails, and what comes meanwhile.
@@ -94,6 +99,8 @@ WRONG = [
     ("a hart that isn't there, with a state", TWO + answered(HSM, 2, 9), "breaks", 6),
     ("an id that is cut", TWO + answered(HSM, 2, 1 << 32), "breaks", 6),
     ("a started hart, started", TWO + answered(HSM, 0, 1, 0x80200100), "breaks", 6),
+    ("a started hart, started beyond the board's RAM", TWO + answered(HSM, 0, 1, 0x80a00000), "breaks", 6),
+    ("a suspended hart, started beyond the board's RAM", TWO + DOZES + answered(HSM, 0, 1, 0x80a00000) + SENDS + "1 ret 0 0 sip=0x2\n", UNEXPLAINED, 7),
     ("a started hart that is invalid", TWO + answered(HSM, 0, 1, 0x80200100, ret="-3 0"), UNEXPLAINED, 6),
     ("a stopped hart that isn't available", TWO + answered(HSM, 0, 2, 0x80200100, ret="-6 0"), UNEXPLAINED, 6),
     ("an error of the timer", TWO + answered(TIME, 0, 5, ret="-3 0"), UNEXPLAINED, 6),
@@ -148,6 +155,9 @@ WRONG = [
     ("an extension that isn't there, and then works", TWO + answered(IPI, 0, 1, ret="-2 0") + answered(IPI, 0, 1), "breaks", 6),
     ("an extension of which a function isn't there", TWO + answered(RFENCE, 0, 3) + answered(RFENCE, 1, 3, ret="-2 0"), "breaks", 8),
     ("a probe that denies what works", TWO + answered(TIME, 0, 5) + answered(BASE, 3, TIME), "breaks", 8),
+    *((f"a probe that denies what {what}", TWO + answered(BASE, 3, eid) + made, "breaks", 6) for what, eid, made in (
+        ("stopped a hart", HSM, call(HSM, 1, hart=1) + answered(HSM, 0, 1, 0x80200100, 9) + "1 entry 0x80200100 1 9\n"),
+        ("rebooted", SRST, call(SRST, 0, 1) + "0 entry 0x80200000 0 0x87e00000\n"), ("switched off", SRST, call(SRST, 0, 0) + "m end off\n"))),
     ("a probe that denies what another one told", TWO + answered(BASE, 3, SRST, ret="0 1") + answered(BASE, 3, SRST), "breaks", 8),
     *((f"function {fid} of Base, which tells otherwise later", TWO + answered(BASE, fid, ret="0 0x1000000") + answered(BASE, fid, ret="0 0x2000000"), "breaks", 8) for fid in (0, 1, 2, 4, 5, 6)),
     ("a satp at an entry", TWO.replace("1 entry 0x80200100 1 7", "1 entry 0x80200100 1 7 satp=0x8000000000080400"), "breaks", 5),
@@ -170,6 +180,16 @@ WRONG = [
     ("a state behind a stop that was refused", TWO + answered(HSM, 1, hart=1, ret="-1 0") + answered(HSM, 2, 1, ret="0 1"), UNEXPLAINED, 8),
     ("a state behind a suspend that was refused", TWO + answered(HSM, 3, 0, hart=1, ret="-2 0") + answered(HSM, 2, 1, ret="0 4"), UNEXPLAINED, 8),
     ("a state behind a start that was refused", TWO + answered(HSM, 0, 2, 0x80200100, ret="-1 0") + answered(HSM, 2, 2, ret="0 2"), UNEXPLAINED, 8),
+    ("a call that loses STIP", TWO + noted(HSM, 2, 1, was="sip=0x20", now="sip=0x0"), "breaks", 6),
+    ("a suspend that loses STIP", TWO + noted(HSM, 3, 0, was="sie=0x20 sip=0x20", now="sie=0x20 sip=0x0"), "breaks", 6),
+    ("a hypervisor's fence that refuses a valid list", TWO + answered(RFENCE, 3, 3, ret="-3 0"), "breaks", 6),
+    ("a hypervisor's fence that refuses all harts", TWO + answered(RFENCE, 6, 0, ALL, ret="-3 0"), "breaks", 6),
+    ("a probe that has what nobody has", TWO + answered(BASE, 3, 0x12345, ret="0 1"), UNEXPLAINED, 6),
+    ("an extension by which a kernel tells, and that is there", TWO + answered(0x08000001, 5, 1, 0), UNEXPLAINED, 6),
+    *((f"{what} at a resume that nothing of this board ends", TWO + FAR_RESUME + f"{more}\n", "breaks", 7) for what, more in (("sstatus.SIE", " sstatus=1"), ("satp", " satp=0x8000000000080400"))),
+    *((f"{what} at an entry of a hart that went on otherwise", LOST + answered(HSM, 0, 1, 0x80200100, 9) + f"1 entry 0x80200100 1 9{more}\n", "breaks", 10)
+      for what, more in (("sstatus.SIE", " sstatus=1"), ("satp", " satp=0x8000000000080400"))),
+    ("a deadline that wakes a hart, and was set for ever", TWO + answered(TIME, 0, ALL, hart=1) + OWN_DEADLINE, UNEXPLAINED, 9),
     ("a state behind a reset that was refused", TWO + answered(SRST, 0, 0, 0xE0000000, ret="-3 0") + answered(HSM, 2, 1, ret="0 1"), UNEXPLAINED, 8),
 ]  # fmt: skip
 
@@ -232,7 +252,16 @@ TOLD = [
     ("a return whose registers weren't seen", TWO + noted(TIME, 0, 5, was="sie=0x2 sip=0x2 sstatus=0", now=""), None, 0),
     ("user pages", TWO + answered(0x08000001, 4, 15, 3, ret="-2 0"), "own", 6),
     ("a wake by an external interrupt", TWO + SLEEPS + "1 ret 0 0 sie=0x200 sip=0x200\n", "own", 7),
-    ("a resume by an external interrupt", TWO + call(HSM, 3, 1 << 31, 0x80200100, 9, hart=1) + "1 entry 0x80200100 1 9 sip=0x200\n", "own", 7),
+    ("a resume by an external interrupt", TWO + FAR_RESUME + "\n", "own", 7),
+    ("a wake by a deadline that no call set", TWO + OWN_DEADLINE, "own", 7),
+    ("a wake by a deadline that the kernel has changed itself", MAY_WRITE + answered(TIME, 0, ALL, hart=1) + OWN_DEADLINE, "own", 9),
+    ("a timer that comes early, by the kernel's own deadline", MAY_WRITE + noted(TIME, 0, 90, was="time=50", now="sip=0x0 time=60") + at(70, "sip=0x20") + "0 ret 0 0x1000000 time=80\n", "unjudged", 6),
+    ("a timer that never comes, by the kernel's own deadline", MAY_WRITE + DUE + at(LATE, "sip=0x0"), "unjudged", 6),
+    ("a vendor's extension", TWO + answered(0x09000001, 0, ret="0 7"), "unjudged", 6),
+    ("a firmware's own extension that is there by the probe", TWO + answered(BASE, 3, 0x0A000001, ret="0 1"), "own", 6),
+    ("an extension that is there by the probe of a cut id", TWO + answered(BASE, 3, 1 << 32 | TIME, ret="0 1"), "open", 6),
+    ("a hypervisor's fence that refuses a list with a stopped hart", TWO + answered(RFENCE, 3, 6, ret="-3 0"), "open", 6),
+    *((f"STIP that is cleared by {what}", TWO + noted(*numbers, was="sip=0x20", now="sip=0x0"), None, 0) for what, numbers in (("set_timer", (TIME, 0, ALL)), ("the legacy extension", (0, 0, ALL)))),
     ("a state behind a wake by an external interrupt", TWO + SLEEPS + answered(HSM, 2, 1, ret="0 4") + answered(HSM, 2, 1) + "1 ret 0 0 sip=0x200\n", "own", 9),
     ("a timer that is late", TWO + DUE + at(LATE - 1, "sip=0x0"), None, 0),
     ("a timer that came late, and then the kernel has cleared it", TWO + DUE + at(100, "sip=0x20") + "0 ret 0 0x1000000\n" + at(LATE, "sip=0x0"), None, 0),
@@ -250,6 +279,9 @@ TOLD = [
     *((f"a list that is refused, of {what}", TWO + answered(*send, ret="-3 0"), "open", 6)
       for what, send in (("no hart", (IPI, 0, 0)), ("a stopped hart", (IPI, 0, 6)), ("a stopped hart to fence", (RFENCE, 1, 4, 0, 0x1000, 0x1000)))),
     ("a list that is refused, of a hart that enters meanwhile", TWO + call(IPI, 0, 4) + answered(HSM, 0, 2, 0x80200100, 7, hart=1) + "2 entry 0x80200100 2 7\n0 ret -3 0\n", "open", 6),
+    ("a probe that denies a reset that may never come", TWO + answered(BASE, 3, SRST) + call(SRST, 0, 0) + "m end limit\n", "open", 6),
+    ("a reset while the one hart sleeps", BOOT.replace("3", "1", 1) + call(HSM, 3, 0) + "m reset\n0 entry 0x80200000 0 0x87e00000\n" + answered(TIME, 0, 5), None, 0),
+    ("a reset while all harts sleep", TWO + answered(HSM, 2, 1) + DOZES + answered(HSM, 2, 1, ret="0 4") + call(HSM, 3, 1 << 31, 0x80200100) + "m reset\n0 entry 0x80200000 0 0x87e00000\n", None, 0),
     ("a start that failed, and the next one", TWO + answered(HSM, 0, 2, 0x80200100, 7, ret="-1 0") + answered(HSM, 0, 2, 0x80200100, 7) + "2 entry 0x80200100 2 7\n", "open", 6),
     ("ids of two harts' machines", TWO + answered(BASE, 4, ret="0 1") + answered(BASE, 4, ret="0 2", hart=1), "open", 6),
     ("an IPI that comes behind a fence's wake", TWO + DOZES + answered(RFENCE, 0, 2) + SENDS + "1 ret 0 0 sie=0x2 sip=0x0 time=80\n", None, 0),
@@ -267,10 +299,10 @@ TOLD = [
 # ---- the table of rules
 
 ARGUMENTS = {
-    BASE: [(0,), (3, BASE), (3, 0x54494D45), (3, 0x4442434E), (4,)],
+    BASE: [(0,), (3, BASE), (3, 0x54494D45), (3, 0x4442434E), (3, 0x0A000000), (3, 0x12345), (4,)],
     TIME: [(0, 5)],
     IPI: [(0, 3, 0), (0, 8, 0), (0, 0, 7), (0, 1, ALL)],
-    RFENCE: [(0, 3, 0), (1, 3, 0, 0x1000, 0x1000), (2, 8, 0), (1, 1, 0, ALL - 1, 5), (3, 1), (6, 1)],
+    RFENCE: [(0, 3, 0), (1, 3, 0, 0x1000, 0x1000), (2, 8, 0), (1, 1, 0, ALL - 1, 5), (3, 1), (4, 8), (6, 1)],
     HSM: [(0, 0, 0x80000000), (0, 1, 0x80000000), (0, 1, 1), (0, 9, 0x80000000), (0, 1 << 32, 0x80000000), (1,), (2, 0), (2, 9), (2, 1 << 32)]
     + [(3, kind, 0x80000000) for kind in (0, 5, 0x80000000, 0x80000005, 0x10000000, 0x90000000)] + [(3, 0x80000000, 1)],
     SRST: [(0, kind, reason) for kind in (0, 1, 2, 5, 0xF0000000) for reason in (0, 5, 0xE0000000)],
@@ -368,8 +400,9 @@ CONDITIONS = [
 
 # How a record says that it ended, and what the report says of that.
 ENDS = (
-    ("", "it doesn't say how"), ("m end off\n", "the machine was switched off"), ("m end limit\n", "by the recorder's limit of time"), ("m end closed\n", "the recorder lost the machine"),
-    ("# ended: the limit of 60 s\n", "by the recorder's limit of time"), ("# ended: the machine was switched off\n", "the machine was switched off"), ("# it ended well\n", "it doesn't say how"),
+    ("", "it doesn't say how"), ("m end off\n", "the machine was switched off, by no call"), ("m end limit\n", "by the recorder's limit of time"), ("m end closed\n", "the recorder lost the machine"),
+    ("# ended: the limit of 60 s\n", "by the recorder's limit of time"), ("# ended: the machine was switched off\n", "the machine was switched off, by no call"),
+    *((call(*numbers) + "m end off\n", "the machine was switched off") for numbers in ((SRST, 0, 0), (8, 0))), ("# it ended well\n", "it doesn't say how"),
 )  # fmt: skip
 
 
@@ -403,9 +436,11 @@ class Reports(Test):
             text = BOOT + answered(HSM, 0, 1, 0x80200100, 7, ret="0 0 time=50") + f"{call(TIME, 0, 5)[:-1]} time={{}}\n0 ret 0 0\n" + end
             found = [[len(reported(text.format(time)).items[kind]) for kind in ("enter", "unjudged")] for time in (SOON + 49, SOON + 50)]
             must(f"a hart that hasn't entered before {end!r}: {found}", found == [[0, 1], [1, 0]])
-        stopped = DOZES.replace(" 3 0 ", " 1 0 ") + answered(HSM, 0, 1, 0x80200100, 9) + 2 * TOLD_STARTED.format(LONG + 50, 3 * LONG) + "m end limit\n"
+        stopped = DOZES.replace(" 3 0 ", " 1 0 ") + answered(HSM, 0, 1, 0x80200100, 9) + TOLD_STARTED.format(LONG + 50, 2 * LONG) + TOLD_STARTED.format(2 * LONG, 3 * LONG) + "m end limit\n"
         report = reported(TWO + stopped)
         must(f"a stopped hart that is started again: {list(report.lines())}", [len(report.items[it]) for it in ("return", "enter")] == [0, 1])
+        hangs = TWO + answered(TIME, 0, 5) + call(1, 0, 65) + "m end limit\n"
+        must("a call that is passed over, and never returns", [item.at for item in reported(hangs, None, ("legacy",)).items["return"]] == [8])
         told = [*reported(TWO + 2 * "m reset\n0 entry 0x80200000 0 0x87e00000\n" + answered(TIME, 0, 5)).lines()]
         must(f"resets by no call: {told}", "resets by no call: 2, at line 6, 8" in told)
         must("an error of the version that has the extension is no fault", not reported(TWO + "0 call 0x535441 0 0 0 0 0 0 0\n0 ret -9 0\n", None, (), (1, 0)).is_bad)

@@ -37,15 +37,22 @@ class Differences:
         for place, line in enumerate(self.lines):
             if line.hart is not None:
                 self.places[line.hart].append(place)
-        # What the firmware says of itself: the version of the specification, and which extensions it has, by a probe or by another answer
-        # than NOT_SUPPORTED.
+        # What the firmware says of itself: the version of the specification, and which extensions it has, by a probe, by another answer
+        # than NOT_SUPPORTED, or by a call that has stopped, suspended or reset.
         told = [(line.numbers, self.lines[line.reply].numbers) for line in self.lines if line.kind == "call" and line.reply is not None]
         said = [value for numbers, (error, value) in told if numbers[:2] == (BASE, 0) and error == 0 and value < 1 << 31]
         self.version = version or (version_of(said[0]) if said else (1, 0))
         self.offered = {numbers[2] for numbers, (error, value) in told if numbers[:2] == (BASE, 3) and error == 0 and value}
         self.offered |= {numbers[0] for numbers, (error, _) in told if numbers[:2] in FUNCTIONS and error not in (None, NOT_SUPPORTED)}
+        self.offered |= {line.numbers[0] for line in self.lines if line.kind == "call" and self.has_left(line)}
 
     # ---- what was recorded
+
+    def has_left(self, line):
+        """Whether a call without a return did what it was asked: its hart entered behind it, or the machine is off."""
+        if line.reply is not None or line.numbers[:2] not in FUNCTIONS:
+            return False
+        return self.record.end == "off" and is_reset(line.numbers) if line.then is None else self.lines[line.then].kind == "entry"
 
     def shown(self, place):
         """What a call answered, in the words of a board; None where the record doesn't tell. A value that the standard
@@ -182,18 +189,18 @@ class Differences:
     def look_at_notes(self, state, line, is_start):
         """What the hart's registers had at its entry, beside what the board's have."""
         board, hart = state.board, line.hart
-        if line.notes.get("satp"):
-            state.put(Difference(line.number, f"{self.id(hart)} entry: satp", "0x0", f"{line.notes['satp']:#x}", verdict_of("no satp"), None))
-        here = {"sie": board.harts[hart].sie, "sip": board.sip(hart), "sstatus": board.harts[hart].sstatus}
-        for name, value in here.items():
-            there = line.notes.get(name)
-            if there is None:
-                continue
-            there &= READ_SIE if name != "sstatus" else 1
+        self.look_at_zeros(state, line)
+        for name, value in (("sie", board.harts[hart].sie), ("sip", board.sip(hart))):
+            there = line.notes.get(name, value) & READ_SIE
             if there != value:
                 rule = rule_of_entry(name, is_start, value, there)
-                verdict = verdict_of(rule) if rule else SSTATUS
-                state.put(Difference(line.number, f"{self.id(hart)} entry: {name}", f"{value:#x}", f"{there:#x}", verdict, None))
+                state.put(Difference(line.number, f"{self.id(hart)} entry: {name}", f"{value:#x}", f"{there:#x}", verdict_of(rule), None))
+
+    def look_at_zeros(self, state, line):
+        """What is 0 at an entry, however the hart came to it."""
+        for name, there, verdict in (("satp", line.notes.get("satp", 0), verdict_of("no satp")), ("sstatus", line.notes.get("sstatus", 0) & 1, SSTATUS)):
+            if there:
+                state.put(Difference(line.number, f"{self.id(line.hart)} entry: {name}", "0x0", f"{there:#x}", verdict, None))
 
     def by_its_state(self, state, call, shown):
         """The rule that excuses an answer in this state, by what overlaps with its call."""
@@ -246,7 +253,7 @@ class Differences:
 
     def of_wake(self, state, hart, line):
         """What woke a hart that sleeps here. line: that at which it went on there, or None."""
-        rule = rule_of_wake(state, hart, line.notes.get("sip", 0) if line else 0)
+        rule = rule_of_wake(state, hart, line.notes.get("sip", 0) if line else 0, self.record.has_stimecmp)
         return verdict_of(rule) if rule else None
 
 

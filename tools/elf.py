@@ -4,18 +4,24 @@ import struct
 from bisect import bisect_right
 
 EXECUTABLE, LOADED, SYMBOLS, FUNCTION = 1, 1, 2, 2
+# (each place at which one begins, also inside of another)
+CSR_0X14D = re.compile(rb"(?=([\x73\xf3][\x00-\xff][\xd0-\xdf]\x14))", re.S)
 
 
 class Elf:
     """A file for RV64, little-endian: `segments`, as (physical address, virtual address, bytes, whether it is code); None of it
-    where the file is another one: a raw image."""
+    where the file is another one: a raw image, or an ELF file that is cut."""
 
     def __init__(self, path):
         with open(path, "rb") as file:
             self.data = file.read()
         self.is_elf = self.data[:6] == b"\x7fELF\x02\x01"
-        self.segments = list(self.read_segments()) if self.is_elf else []
-        self.names = sorted(self.read_names()) if self.is_elf else []
+        self.segments, self.names = [], []
+        try:
+            if self.is_elf:
+                self.segments, self.names = list(self.read_segments()), sorted(self.read_names())
+        except (struct.error, IndexError, ValueError):
+            self.is_elf = False
 
     def read_segments(self):
         at, size, count = struct.unpack_from("<Q", self.data, 32)[0], *struct.unpack_from("<HH", self.data, 54)
@@ -46,6 +52,18 @@ class Elf:
             if at and inside:
                 return self.names[at - 1][1]
         return None
+
+
+def writes_stimecmp(elf):
+    """Whether the code has an instruction that writes the CSR stimecmp (Sstc)."""
+    codes = [code for _, _, code, is_code in elf.segments if is_code] if elf.is_elf else [elf.data]
+    return any(found.start() % 2 == 0 and is_write(int.from_bytes(found[1], "little")) for code in codes for found in CSR_0X14D.finditer(code))
+
+
+def is_write(word):
+    """Whether a CSR instruction writes: a csrrs or csrrc of x0, or of 0, only reads."""
+    kind, of = word >> 12 & 7, word >> 15 & 31
+    return kind & 3 == 1 or kind & 3 != 0 and of != 0
 
 
 class Names:

@@ -59,6 +59,9 @@ def printed_by(path, asked, bios, seconds):
     except subprocess.TimeoutExpired:
         machine.kill()
         return machine.communicate()[0], "limit"
+    finally:
+        machine.kill()
+        machine.wait()
 
 
 def record_in(console, end):

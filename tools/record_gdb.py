@@ -16,6 +16,9 @@ SRST, HSM, SUSP, RFENCE = 0x53525354, 0x48534D, 0x53555350, 0x52464E43
 FROM_S_MODE = 9
 ENTRY = int(os.environ["RECORD_ENTRY"])
 HARTS = int(os.environ["RECORD_HARTS"])
+WRITES_STIMECMP = "RECORD_STIMECMP" in os.environ
+# Of menvcfg: the supervisor may write stimecmp.
+STCE = 1 << 63
 CALL_REGISTERS = ("a7", "a6", "a0", "a1", "a2", "a3", "a4", "a5")
 NON_RETENTIVE = 1 << 31
 
@@ -29,6 +32,13 @@ def register(name):
 
 def time_now():
     return int.from_bytes(bytes(gdb.selected_inferior().read_memory(MTIME, 8)), "little")
+
+
+def has_stimecmp():
+    try:
+        return bool(register("menvcfg") & STCE)
+    except gdb.error:
+        return False
 
 
 def memory(address, count):
@@ -80,6 +90,7 @@ class Recorder:
         notes = [f"time={time_now():#x}", f"sie={register('sie'):#x}", f"sip={register('sip'):#x}", f"sstatus={register('sstatus') >> 1 & 1}"]
         if words[0] == "entry":
             notes.append(f"satp={register('satp'):#x}")
+            notes += ["sstc=1"] if WRITES_STIMECMP and has_stimecmp() else []
         if self.tables and words[0] == "call":
             notes += [f"pc={register('mepc'):#x}", f"ra={register('ra'):#x}"]
             callers = self.tables.callers(register("satp"), register("s0"), register("sp")) if register("a7") == RFENCE else []

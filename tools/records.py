@@ -3,7 +3,7 @@ from board_model import ALL, HSM, IPI, RFENCE, SRST
 
 # Return addresses of callers, from the innermost one.
 CALLERS = ("ra", *(f"ra{place}" for place in range(2, 9)))
-NOTES = ("time", "sie", "sip", "sstatus", "satp", "pc", *CALLERS, "firmware")
+NOTES = ("time", "sie", "sip", "sstatus", "satp", "sstc", "pc", *CALLERS, "firmware")
 COUNTS = {"call": 8, "ret": 2, "entry": 3, "satp": 1, "sfence": 2, "fencei": 0, "sinval": 2, "winval": 0, "invalir": 0}
 # Lines of page tables, which a trace has nothing of.
 OF_TABLES = ("satp", "sfence", "fencei", "sinval", "winval", "invalir", "store")
@@ -42,6 +42,7 @@ class Record:
         self.place_of = {number: place for place, number in enumerate(ids)}
         self.has_times = any("time" in line.notes for line in lines)
         self.has_sie = any("sie" in line.notes for line in lines)
+        self.has_stimecmp = any(line.notes.get("sstc") for line in lines)
 
 
 def number_of(word, at, is_error=False):
@@ -206,7 +207,7 @@ def listed(record, pair):
 
 def join(lines):
     """Joins each call with its return, and each line with the hart's next one."""
-    last, calls, entered, since = {}, {}, set(), "before this line"
+    last, calls, times, entered, since = {}, {}, {}, set(), "before this line"
     if lines and lines[0].kind != "entry":
         raise Broken(lines[0].number, "the first line of a hart is the entry of the one that boots")
     for place, line in enumerate(lines):
@@ -219,6 +220,7 @@ def join(lines):
         if line.kind == "entry":
             entered.add(hart)
             calls.pop(hart, None)
+            times.pop(hart, None)
         elif line.kind == "call":
             if hart in calls:
                 raise Broken(line.number, nested(hart, lines[calls[hart]].number))
@@ -227,6 +229,9 @@ def join(lines):
             if hart not in calls:
                 raise Broken(line.number, f"a reply without its call: hart {hart} is in none")
             lines[calls.pop(hart)].reply = place
+        if line.notes.get("time", ALL) < times.get(hart, 0):
+            raise Broken(line.number, f"hart {hart}'s time goes back, from {times[hart]:#x} to {line.notes['time']:#x}")
+        times[hart] = line.notes.get("time", times.get(hart, 0))
         if hart in last:
             lines[last[hart]].then = place
         last[hart] = place

@@ -5,12 +5,13 @@ from bisect import bisect_left
 from board_model import ALL, IPI, LOW, RFENCE, SSI, STI, TIME
 from records import is_suspend
 from rules import SEI, verdict_of
-from standard import LEGACY
+from standard import LEGACY, UNJUDGED, Verdict
 from states import Difference
 
 READ_SIE = SSI | STI
 # Functions of the legacy extensions, and how many ticks behind its time a timer surely doesn't come any more: on a busy machine it is late.
 SET_TIMER, SEND_IPI, LATE = 0, 4, 10_000_000
+STIMECMP = Verdict(UNJUDGED, "a deadline that the kernel may have changed by stimecmp", "6.1")
 
 
 class Registers:
@@ -19,6 +20,7 @@ class Registers:
     def __init__(self, follower):
         self.follower, self.lines = follower, follower.lines
         self.of_hart = {hart: [self.lines[place] for place in places] for hart, places in follower.places.items()}
+        self.of_timers = STIMECMP if follower.record.has_stimecmp else verdict_of("timers")
 
     def differences(self):
         for hart in self.of_hart:
@@ -28,8 +30,8 @@ class Registers:
             yield from self.unsent(hart)
             yield from self.lost(hart)
 
-    def told(self, call, what, here, there, rule):
-        return Difference(call.number, f"{self.follower.name(call)}: {what}", f"{here:#x}", f"{there:#x}", verdict_of(rule), None)
+    def told(self, call, what, here, there, verdict):
+        return Difference(call.number, f"{self.follower.name(call)}: {what}", f"{here:#x}", f"{there:#x}", verdict, None)
 
     def returned(self, hart):
         """Its calls that have returned, each with its return."""
@@ -45,15 +47,18 @@ class Registers:
     # ---- registers that a call changes
 
     def unkept(self, hart):
-        """Calls whose registers were seen at their return too, and are others. An IPI may come in between, and the legacy extensions
-        may clear SSIP."""
+        """Calls whose registers were seen at their return too, and are others. An IPI or a deadline may come in between, the legacy
+        extensions may clear SSIP, and set_timer clears STIP."""
         for call, ret in self.returned(hart):
             for name, bits in (("sie", READ_SIE), ("sstatus", 1), ("sip", SSI)):
                 was, now = (line.notes.get(name) for line in (call, ret))
                 if was is None or now is None or name == "sip" and (now & SSI or call.numbers[0] in LEGACY):
                     continue
                 if (was ^ now) & bits:
-                    yield self.told(call, name, was & bits, now & bits, "registers")
+                    yield self.told(call, name, was & bits, now & bits, verdict_of("registers"))
+            was, now = (line.notes.get("sip", 0) for line in (call, ret))
+            if was & STI and "sip" in ret.notes and not now & STI and call.numbers[0] not in (TIME, SET_TIMER):
+                yield self.told(call, "STIP", 1, 0, verdict_of("timers"))
 
     # ---- timers
 
@@ -70,7 +75,7 @@ class Registers:
             if timer and line.notes.get("sip", 0) & STI:
                 if timer.numbers[2] > self.latest(lines[at:]):
                     where = "its return" if timer is call else f"line {line.number}"
-                    yield self.told(timer, f"STIP at {where}", 0, 1, "timers")
+                    yield self.told(timer, f"STIP at {where}", 0, 1, self.of_timers)
                 timer = None
             if line.kind == "call" and line.numbers[0] in (TIME, SET_TIMER):
                 timer = None
@@ -90,7 +95,7 @@ class Registers:
                 timer = None
             passed = line.notes.get("time", -1) - timer.numbers[2] if timer else -1
             if has_returned and line.kind == "call" and passed >= LATE and "sip" in line.notes:
-                yield self.told(timer, f"STIP at line {line.number}", 1, 0, "timers")
+                yield self.told(timer, f"STIP at line {line.number}", 1, 0, self.of_timers)
                 timer = None
             has_returned |= line.kind == "ret" and passed >= 0
             if line.kind == "call" and line.numbers[0] in (TIME, SET_TIMER):
@@ -114,7 +119,7 @@ class Registers:
             was, now = (line.notes.get("sip") for line in (call, ret))
             came += was is not None and now is not None and bool(~was & now & SSI)
             if came > bisect_left(sent, call.reply):
-                yield self.told(call, "SSIP", 0, 1, "ipis")
+                yield self.told(call, "SSIP", 0, 1, verdict_of("ipis"))
                 came -= 1
 
     def lost(self, hart):
@@ -126,7 +131,7 @@ class Registers:
             named = [*self.meanwhile(hart, call)]
             ipis = [line for line, is_behind in named if is_behind and line.numbers[:2] == (IPI, 0) and self.has_succeeded(line, call.reply)]
             if ipis and all(line.numbers[0] == IPI for line, _ in named):
-                yield self.told(ipis[0], f"SSIP of hart {self.follower.id(hart)} at line {ret.number}", 1, 0, "ipis")
+                yield self.told(ipis[0], f"SSIP of hart {self.follower.id(hart)} at line {ret.number}", 1, 0, verdict_of("ipis"))
 
     def has_succeeded(self, call, place):
         """Whether the call has returned before this place, with success."""

@@ -2,13 +2,15 @@
 from collections import Counter
 
 import liveness
-from records import Broken
+from records import Broken, is_reset
 from registers import Registers
 from rules import RULES
 from standard import BREAKS, OPEN, OWN, UNEXPLAINED, UNJUDGED
 from states import Difference
 
 AGREES, PASSED, FOLLOWS = "agree", "passed over", "follows"
+# A function of the legacy extensions.
+SHUTDOWN = 8
 # The classes in the order in which they are told, with what is said of their calls and entries, and of the whole.
 CLASSES = {
     BREAKS: ("break the standard", "breaks the standard"),
@@ -63,9 +65,10 @@ class Report:
         self.record, self.follower = follower.record, follower
         if not self.record.lines:
             raise Broken(1, "nothing was recorded")
-        faults = [of_fault(fault) for fault in liveness.faults(self.record) if not self.is_passed_over(fault.at)]
+        # (a call that is passed over must return, and keep the registers, all the same)
+        faults = [of_fault(fault) for fault in liveness.faults(self.record) if fault.kind == liveness.RETURN or not self.is_passed_over(fault.at)]
         entries = {fault.at for fault in faults if fault.kind == liveness.OTHERWISE}
-        seen = [item for item in (*Registers(follower).differences(), *follower.unsteady()) if not self.is_passed_over(item.at)]
+        seen = [*Registers(follower).differences(), *(item for item in follower.unsteady() if not self.is_passed_over(item.at))]
         found = [of_difference(item) for item in (*items, *seen) if isinstance(item, Difference)]
         # (an entry that nobody asked for is told once)
         found = [item for item in found if item.at not in entries or item.kind not in (UNEXPLAINED, liveness.OTHERWISE, FOLLOWS)]
@@ -99,6 +102,11 @@ class Report:
         return all(self.classes[line.number] in NOT_COMPARED for line in self.record.lines if line.kind == "call")
 
     @property
+    def is_off_by_no_call(self):
+        """Whether the machine was switched off, and no call could have done it."""
+        return self.record.end == "off" and not any(line.kind == "call" and line.then is None and (is_reset(line.numbers) or line.numbers[0] == SHUTDOWN) for line in self.record.lines)
+
+    @property
     def is_bad(self):
         """Whether something is wrong with what was recorded, or no call was compared."""
         return any(self.items[kind] for kind in FAULTS) or self.is_empty
@@ -112,7 +120,7 @@ class Report:
         if self.counts[PASSED]:
             yield f"  {self.counts[PASSED]} are passed over"
         yield f"compared: {self.compared} of {total}, {100 * self.compared / total:.1f} %" + (", and no call" if self.is_empty else "")
-        yield f"the record ends: {ENDINGS[self.record.end]}"
+        yield f"the record ends: {ENDINGS[self.record.end]}" + ", by no call" * self.is_off_by_no_call
         if resets := [str(line.number) for line in self.record.lines if line.kind == "reset"]:
             yield f"resets by no call: {len(resets)}, at line {', '.join(resets)}"
         for kind, (_, title) in CLASSES.items():

@@ -1,10 +1,10 @@
 """Which rule of this board a difference from a recorded answer is, its class, the section of SBI 1.0.0, and the answers that
 it excuses. Each sentence stands in docs/FIRMWARE.md, in the first column of a table of the section named (tests/test_to_trace.py looks)."""
 from board_model import (
-    ALL, ALREADY_AVAILABLE, BASE, EXTENSIONS, FAILED, GONE, HSM, INTERRUPTIBLE, INVALID_ADDRESS, INVALID_PARAM, IPI, LOW, NOT_SUPPORTED, RFENCE, SRST, SSI, STARTED,
+    ALL, ALREADY_AVAILABLE, BASE, EXTENSIONS, FAILED, GONE, HSM, INTERRUPTIBLE, INVALID_ADDRESS, INVALID_PARAM, IPI, LOW, NOT_SUPPORTED, RFENCE, SRST, SSI, STARTED, STI,
     STOPPED, SUSPEND_PENDING, SUSPENDED, WAITING, suspend_error, targets,
 )  # fmt: skip
-from standard import BREAKS, LATER, LEGACY, OPEN, OWN, PMU, UNEXPLAINED, UNJUDGED, Verdict, by_arguments, by_itself, by_state
+from standard import BREAKS, LATER, LEGACY, OPEN, OWN, OWN_SPACES, PMU, UNEXPLAINED, UNJUDGED, Verdict, by_arguments, by_itself, by_state
 
 DEBUG_CONSOLE = 0x4442434E
 
@@ -67,6 +67,7 @@ RULES = {
     "externals": Rule("there are no external interrupts, so none wakes a hart", HARTS, OWN, "9.4", 0),
     "starts clear": Rule("an entry by start clears sie and SSIP", TIMES, OPEN, "9.1", "any"),
     "deadlines": Rule("a stop, and an entry by start, forget the deadline", TIMES, OPEN, "9.1", "any"),
+    "stimecmp": Rule("set_timer alone sets a deadline", TIMES, OWN, "6.1", 0),
     "types of resets": Rule(
         "a reserved type or reason is INVALID_PARAM, -3; a vendor's type is NOT_SUPPORTED, -2", RESETS, OPEN, "10.1",
         INVALID_PARAM, NOT_SUPPORTED, FAILED, "gone",
@@ -151,14 +152,22 @@ def rule_of(board, op, here, there):
 def of_other_extension(eid):
     if eid & LOW in EXTENSIONS and eid & ~LOW:
         return "whole ids"
-    return "their calls" if eid in LEGACY or eid == PMU or eid in LATER else None
+    # (what a kernel tells is judged where nobody has the extension by which it does)
+    return "their calls" if is_left_out(eid) and eid != TELLS else None
+
+
+def is_left_out(eid):
+    """Whether this board lacks an extension that a firmware may have."""
+    return eid in LEGACY or eid == PMU or eid in LATER or eid in OWN_SPACES
 
 
 def of_base(board, fid, a, here, there):
     if fid == 3:
         if here[2] and there[2]:
             return "probes"
-        return "optional" if a[0] in EXTENSIONS and a[0] != BASE else None if a[0] == BASE else "extensions"
+        if a[0] in EXTENSIONS:
+            return None if a[0] == BASE else "optional"
+        return "extensions" if is_left_out(a[0]) else "whole ids" if a[0] & LOW in EXTENSIONS else None
     return {0: "version", 1: "implementation", 2: "implementation", 4: "machine", 5: "machine", 6: "machine"}.get(fid)
 
 
@@ -177,7 +186,8 @@ def of_refused_list(board, op, there):
 
 def of_fence(board, fid, a, here, there):
     if 3 <= fid <= 6:
-        return "hypervisor"
+        # (a list that is valid is refused by none of them)
+        return None if there[:2] == ("ret", INVALID_PARAM) and targets(a[0], a[1], len(board.harts)) is not None else "hypervisor"
     if there[:2] == ("ret", NOT_SUPPORTED) and here == WAITING:
         return "optional"
     return "ranges" if here == ("ret", INVALID_ADDRESS, 0) and there == WAITING else None
@@ -195,7 +205,8 @@ def of_start(board, a, here, there):
         # (of several errors the standard leaves open which one comes)
         state, said = board.harts[a[0]].state if a[0] < len(board.harts) else STOPPED, there[:2]
         is_other = said == ("ret", ALREADY_AVAILABLE) and state != STOPPED or said == ("ret", INVALID_PARAM) and state not in (STARTED, STOPPED)
-        return "already available" if is_other else "addresses"
+        # (no address starts a hart that runs)
+        return "already available" if is_other else None if said == ("ret", 0) and state in INTERRUPTIBLE else "addresses"
     if error == ALREADY_AVAILABLE and there[:2] == ("ret", INVALID_PARAM) and board.harts[a[0]].state != STARTED:
         return "already available"
     return {FAILED: "unknown reasons", NOT_SUPPORTED: "optional"}.get(there[1] if there[0] == "ret" else 0)
@@ -236,21 +247,22 @@ def of_reset(board, fid, a, here, there):
 
 
 def rule_of_entry(name, is_start, here, there):
-    """A register that an entry left otherwise."""
+    """An entry left sie or sip otherwise."""
     if name == "sie":
         return "starts clear" if is_start else "resumes keep"
-    if name == "sip":
-        return ("deadlines" if (here ^ there) & ~SSI else "starts clear") if is_start else "resumes keep"
-    return None
+    return ("deadlines" if (here ^ there) & ~SSI else "starts clear") if is_start else "resumes keep"
 
 
-def rule_of_wake(state, hart, sip):
-    """A suspended hart went on there, and has nothing to wake it here. sip: what it had there when it went on."""
+def rule_of_wake(state, hart, sip, has_stimecmp):
+    """A suspended hart went on there, and has nothing to wake it here. sip: what it had there when it went on. has_stimecmp: its
+    kernel may have set the deadline itself."""
     it = state.board.harts[hart]
     if it.state not in (SUSPENDED, SUSPEND_PENDING):
         return None
     if sip & SEI:
         return "externals"
+    if sip & STI and (has_stimecmp or it.deadline is None):
+        return "stimecmp"
     if state.board.sip(hart):
         return "wake"
     return "fences don't wake" if hart in state.fenced else None

@@ -14,6 +14,8 @@ PMU = 0x504D55
 # How many bits a physical address has (Privileged 4.4, 4.5).
 PHYSICAL = 56
 LEGACY = range(9)
+# Extensions for experiments, of vendors and of firmwares (SBI 12 to 14).
+OWN_SPACES = range(0x08000000, 0x0B000000)
 # Extensions of later versions, with the version that has them first.
 LATER = {
     0x4442434E: (2, 0), 0x53555350: (2, 0), 0x43505043: (2, 0), 0x4E41434C: (2, 0), 0x535441: (2, 0),
