@@ -206,6 +206,6 @@ class Marks(Test):
 
     def test_nothing_translated_is_noted(self):
         """A condition on marks of a record without an access that an entry or a fetched word could change is noted, also where accesses fault."""
-        for asked, more, is_noted in (("steady", "", True), ("steady 0", "0 load 0x1000\n", True), ("never 0 -> stale", "0 fetch 0x80004000\n", True), ("steady 0", "0 fetch 0x80004000\n", False), ("never 1 -> stale", "1 load 0x7000\n", False), ("before 1 load -> stale, 0 load -> stale", "0 load 0x1000\n1 load 0x1000\n", True)):
+        for asked, more, is_noted in (("steady", "", True), ("steady 0", "0 load 0x1000\n", True), ("never 0 -> stale", "0 fetch 0x80004000\n", True), ("steady 0", "0 fetch 0x80000000\n", False), ("never 1 -> stale", "1 load 0x7000\n", False), ("before 1 load -> stale, 0 load -> stale", "0 load 0x1000\n1 load 0x1000\n", True)):
             status, lines = told(self.room, f"#! {asked}\n{BEFORE}{more}", name="a.sched")
             must(f"{asked}: {more}: {lines}", status == 0 and ("# line 1: never met: no step has this actor and operation" in lines) == is_noted)
