@@ -1,6 +1,6 @@
 -- The steps of a record that tell something, one by one.
-use Rattle.std.proofs.Common.{◌≡◌, ℕ, ◌<◌, ◌≤◌, Bool, true, false, List, length, get_or, subst, arith}
-use Rattle.std.specs.Prelude.{◌||◌, Option, Some, None, slice_get}
+use Rattle.std.proofs.Common.{◌≡◌, ℕ, ◌<◌, ◌≤◌, Bool, true, false, List, length, get_or, refl, subst, arith}
+use Rattle.std.specs.Prelude.{◌||◌, Option, Some, None}
 use Rattle.std.proofs.lemmas.Option.{slice_get_within}
 use Rattle.access_marks.specs.declared.marks.Marks.{Marks}
 use Rattle.board_core.specs.History.{Event}
@@ -33,16 +33,19 @@ or-true true b is = refl
 or-true false b is = cc
 
 marked-tells : (mark : Option Mark) (p : Pattern) (e : Event) (m : Marks) → FitsMark mark p e m → IsTelling mark e m
-marked-tells None p e m fits = ()
+marked-tells None p e m fits = tt
 marked-tells (Some mark) p e m fits = or-true (told_mark mark m) (could_have mark e) fits
 
 -- a step that a pattern matches with its marks tells something
 pub matched-tells : (p : Pattern) (events : List Event) (marks : List Marks) → ¬ HasTelling p events marks → (k : ℕ) → ¬ IsAtWith p events marks k
-matched-tells p events marks none k at = none (k, record {
-  event = at.event;
-  of = at.of;
-  happened = at.happened;
-  marked = at.marked;
-  fits = at.matches.0;
-  tells = marked-tells (mark_of p) p at.event at.of at.matches.1;
-})
+matched-tells p events marks none k at = none (
+  k,
+  record {
+    event = at.event;
+    of = at.of;
+    happened = at.happened;
+    marked = at.marked;
+    fits = at.matches.0;
+    tells = marked-tells (mark_of p) p at.event at.of at.matches.1;
+  },
+)

@@ -104,7 +104,8 @@ fn could_have(mark: Mark, event: &Event) -> bool
         Mark::Stale => event.translation().is_some() || is_page_fault(event.reply()),
         Mark::Unsteady => {
             event.translation().is_some()
-                || (is_page_fault(event.reply()) || (is_fetch(event.op()) && is_word(event.reply())))
+                || (is_page_fault(event.reply())
+                    || (is_fetch(event.op()) && is_word(event.reply())))
         }
     }
 }
