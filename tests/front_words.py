@@ -17,6 +17,7 @@ USAGES = (
     ["test", "--seed", "99999999999999999999x"], ["test", "--jobs", "-1"], ["test", "--jobs", "+", "a"], ["test", "--times", "++5", "a"], ["explore", "--states", "+-1", "a"], ["test", "--seed", "+18446744073709551616", "a"], ["test", "--order", " 1", "a"], ["test", "--jobs", "0x1", "a"], ["test", "--times", "1", "--order", "1", "a"], ["test", "--order=1", "--times=1"],
     ["test", "--threads=1", "a"], ["test", "--threads", "--threads"], ["test", "--seed", "1", "--seed", "2", "--fly"], ["test", "a", "-xy"], ["test", "-V"], ["test", "--version"],
     ["explore", "--state", "1", "a"], ["explore", "--times", "1", "a"], ["explore", "--no-outcome", "a"], ["explore", "--seconds", "1.5", "a"], ["explore", "--tap", "--", "a"], ["explore", "--states"],
+    ["test", "--failed", "", "a"], ["explore", "--failed=", "a"], ["test", "--tap", "", "a"], ["explore", "--tap=", "a"], ["test", "--failed", "x", "--failed", "", "a"], ["test", "--failed=", "--fly"], ["run", "--keep", "", "none"],
 )  # fmt: skip
 
 # Words that begin no build, with the status, and what is said in the end.

@@ -163,11 +163,28 @@ class Marks(Test):
         must(f"{lines}", status == 0 and found == ["ok line 1: steady: holds in 1,000 orders of unknown many, seed 0"])
 
     def test_programs_without_such_accesses(self):
-        """A condition on marks of a program that translates nothing, fetches nothing and takes no fault is vacuous."""
-        for asked, said in (("steady", "_"), ("never stale", "stale"), ("steady 0 load", "0 load"), ("some 0 load -> unsteady", "0 load -> unsteady")):
-            status, found, lines = in_way(self.room, ("sbiboard", ("--times", "5")), f"#! {asked}\nboard 1 2 9 0 0x80000000 0\nat 0x80000000\nload 0x80001000\n")
-            wanted = f"not ok line 1: {asked}: vacuous: no step is '{said}' in the 5 orders tried; such a step isn't translated, and neither fetches nor faults"
-            must(f"{asked}: {lines}", status == 1 and found == [wanted])
+        """A condition on marks of a program whose accesses no TLB entry could change is vacuous: that translate nothing, also where they fault, or whose address isn't aligned; of `stale` also where they fetch."""
+        for op in ("load 0x80001000", "load 0x1000", "load 0x80001004", "fetch 0x80001002", "fetch 0x1000", "store 0x1000 5", "amoadd 0x80002000 1"):
+            name = op.split()[0]
+            for asked, said in (("steady", "_"), ("never stale", "stale"), (f"steady 0 {name}", f"0 {name}"), (f"some 0 {name} -> unsteady", f"0 {name} -> unsteady"), (f"maybe never 0 {name} -> stale", "")):
+                status, found, lines = in_way(self.room, ("sbiboard", ("--times", "5")), f"#! {asked}\nboard 1 2 9 0 0x80000000 0\nat 0x80000000\n{op}\n")
+                mark = "takes no page fault, and fetches no word" if "stale" not in asked else "and takes no page fault"
+                wanted = f"not ok line 1: {asked}: vacuous: no step is '{said}' in the 5 orders tried; such a step uses no TLB entry, {mark}"
+                must(f"{op}: {asked}: {lines}", found == ([wanted] if said else [f"ok line 1: {asked}: holds in 5 orders of unknown many, seed 0"]) and status == (1 if said else 0))
+
+    def test_programs_whose_accesses_an_entry_could_change(self):
+        """A page fault that an entry could have prevented counts, and so does a fault of a page that was found. A fetch counts of what is unsteady alone."""
+        table = "store 0x80001000 0x20000801\nstore 0x80002000 0x20000c01\nstore 0x80003008 {}\nsatp 0x8000000000080001\n"
+        for entry, op, answer in (("0", "load 0x1000", "fault 13"), ("0x200010c3", "store 0x1000 5", "fault 15"), ("0x300000c7", "load 0x1000", "fault 5"), ("0", "fetch 0x1000", "fault 12"), ("0x200010c7", "load 0x1000", "value 0")):
+            text = "board 1 5 20 0 0x80000000 0\nat 0x80000000\n" + table.format(entry) + op + "\n"
+            name = op.split()[0]
+            for asked in (f"never 0 {name} 0x1000 -> stale", f"steady 0 {name} 0x1000", f"each 0 {name} 0x1000 -> {answer}"):
+                status, found, lines = in_way(self.room, ("sbiboard", ("--times", "5")), f"#! {asked}\n{text}")
+                must(f"{entry}: {asked}: {lines}", status == 0 and found[0].startswith(f"ok line 1: {asked}: holds in"))
+        fetched = "board 1 2 9 0 0x80000000 0\nat 0x80000000\nfetch 0x80001000\n"
+        for asked, is_met in (("never 0 fetch -> stale", False), ("never 0 fetch -> unsteady", True), ("never stale", False), ("steady", True)):
+            status, found, lines = in_way(self.room, ("sbiboard", ("--times", "5")), f"#! {asked}\n{fetched}")
+            must(f"{asked}: {lines}", status == (0 if is_met else 1) and found[0].startswith(f"ok line 1: {asked}: holds" if is_met else f"not ok line 1: {asked}: vacuous: no step is"))
 
     def test_explore_judges_no_marks(self):
         """`explore` makes no records, so it judges no such condition, and says so. It judges the others."""
@@ -188,6 +205,7 @@ class Marks(Test):
         must(f"{lines}", status == 8 and points(lines) == ["not ok line 1: steady: not judged: more than 1,000,000 events"])
 
     def test_nothing_translated_is_noted(self):
-        """A condition on marks of a record without a translated access or a fetch is noted."""
-        status, lines = told(self.room, "#! steady\n" + BEFORE, name="a.sched")
-        must(f"{lines}", status == 0 and "# line 1: never met: no step has this actor and operation" in lines)
+        """A condition on marks of a record without an access that an entry or a fetched word could change is noted, also where accesses fault."""
+        for asked, more, is_noted in (("steady", "", True), ("steady 0", "0 load 0x1000\n", True), ("never 0 -> stale", "0 fetch 0x80004000\n", True), ("steady 0", "0 fetch 0x80000000\n", False), ("never 1 -> stale", "1 load 0x7000\n", False), ("before 1 load -> stale, 0 load -> stale", "0 load 0x1000\n1 load 0x1000\n", True)):
+            status, lines = told(self.room, f"#! {asked}\n{BEFORE}{more}", name="a.sched")
+            must(f"{asked}: {more}: {lines}", status == 0 and ("# line 1: never met: no step has this actor and operation" in lines) == is_noted)

@@ -519,6 +519,17 @@ class Points(Test):
             odd = [it.split(":")[0] for it in found[0] if it.startswith(("# line ", "# a hart ", "    - \"hart 1"))]
             must(f"{odd}, {found[0]}", odd == ['    - "hart 1', "# line 8", "# line 11", "# a hart was entered at 0x80003000, where no block is"] and found[0][1].endswith("; hart 0 loads 0x80002000 (line 7), hart 1 loads 0x80002000 (line 12)"))
 
+    def test_an_empty_name_is_no_folder_and_no_file(self):
+        """--failed and --tap take no empty name, which would be the root's folder: nothing is tested, and nothing is written."""
+        write(os.path.join(self.room, "a.program"), "#! end off\n" + RACE)
+        for name in ("sbiboard", "sbiboard explore"):
+            for option in ("--failed <DIR>", "--tap <FILE>"):
+                for given in ([option.split()[0], ""], [option.split()[0] + "="]):
+                    found = tester(self.room, *given, "a.program", name=name)
+                    said = f"error: a value is required for '{option}' but none was supplied\n\nFor more information, try '--help'.\n"
+                    must(f"{name} {given}: {found}", (found.returncode, found.stdout, found.stderr) == (2, "", said))
+        must("something was written", os.listdir(self.room) == ["a.program"] and not os.path.exists("/a.program.1.failed"))
+
     def test_points_and_records_on_another_file_system(self):
         """A file of points, or of a record, may have a tested file's number on another file system: it is another file. (Here each file has one number.)"""
         made, points = shim(self.room), write(os.path.join(self.room, "points"), "older points\n")

@@ -34,6 +34,12 @@ def unread(words, **how):
         os.close(writing)
 
 
+# The options of each tool that name a file or a folder, and what else it is given.
+NAMING = (
+    ("record", ("--bios", "--dtb", "--console", "--out"), ["image"]), ("to-trace", ("--conditions", "--symbols", "--out"), ["--report", RECORD]), ("record-stats", ("--page",), [RECORD]),
+    ("measure-firmware", ("--linux", "--keep", "--bios"), ["--stored"]), ("fuzz-firmware", ("--keep", "--bios", "--image", "--write", "--read"), ["--seeds", "1"]),
+)  # fmt: skip
+
 # What is changed in a checkout, a text by its file and the one that stands for it (None: the file is new), and what is told then.
 WRONG_FOR_MAP = (
     ("docs/ARCHITECTURE.md", "  hart_mask-->sbi_abi\n", "", "docs/ARCHITECTURE.md is old: run tools/map\n"), ("docs/DEFINITIONS.md", "# Definitions", "# Definition", "docs/DEFINITIONS.md is old: run tools/map\n"),
@@ -88,6 +94,16 @@ class Tools(Test):
             must(f"{words}: {found}", found.returncode == -signal.SIGPIPE and not found.stderr)
         # (nor where what it says goes the same way)
         must("names, with its errors", unread([os.path.join(TOOLS, "names"), "--all"], stderr=subprocess.STDOUT).returncode == -signal.SIGPIPE)
+
+    def test_an_empty_name_is_no_file(self):
+        """An option that names a file or a folder takes no empty name, as of a shell's variable that isn't set; the tool does nothing."""
+        for name, options, words in NAMING:
+            for option in options:
+                for given in ([f"{option}="], [option, ""]):
+                    found = subprocess.run([os.path.join(TOOLS, name), *given, *words], stdin=subprocess.DEVNULL, capture_output=True, text=True, timeout=60, cwd=self.room)
+                    said = found.stderr.splitlines()[-1:]
+                    must(f"{name} {given}: {found}", found.returncode == 2 and not found.stdout and said == [f"{name}: error: argument {option}: a name is wanted, and it is empty"])
+        must("a tool left something", not os.listdir(self.room))
 
     def test_another_pipe_that_breaks_is_told(self):
         """A broken pipe that isn't standard output or error is an error like any other."""

@@ -95,6 +95,22 @@ class Paths(Test):
             for word in ("caf\u00e9", "\u0436", "a\u3000b", "\U0001f600"):
                 must_end(ran(self.room, [front, task, word]), 0, f"built: {own}{word}\n", "")
 
+    def test_an_empty_name_is_no_place(self):
+        """An option that names a file or a folder takes no empty name: nothing is run, built or written, in a clone, a copy and a checked run."""
+        front, folder = clone(self.room), os.path.join(self.room, "copy")
+        must_end(ran(self.room, [front, "--install", folder])[:2], 0, "")
+        seen, here = len(called(self.room)), sorted(os.listdir(self.room))
+        for ways in ([front], [os.path.join(folder, "sbiboard")], [front, "--try"]):
+            for task, file in (("test", "a.sched"), ("explore", "a.program")):
+                for option in ("--html <DIR>", "--junit <FILE>", "--failed <DIR>", "--tap <FILE>"):
+                    for given in ([option.split()[0], ""], [option.split()[0] + "="]):
+                        said = f"error: a value is required for '{option}' but none was supplied\n\nFor more information, try '--help'.\n"
+                        must_end(ran(self.room, [*ways, task, *given, file]), 2, "", said)
+        for given in (["--install", ""], ["--install="]):
+            status, out, said = ran(self.room, [front, *given])
+            must(f"{given}: {said}", (status, out) == (2, "") and said.startswith("error: with --install, a folder DIR is wanted\n"))
+        must("something was made", len(called(self.room)) == seen and sorted(os.listdir(self.room)) == here)
+
     def test_a_copy_without_a_tester(self):
         """An installed copy without the program of `test` says so, whatever is asked of it."""
         front, folder = clone(self.room), os.path.join(self.room, "copy")

@@ -1,4 +1,5 @@
 """How every tool begins and ends: it answers --help, and exits quietly if its output's reader is gone."""
+import argparse
 import os
 import select
 import signal
@@ -8,6 +9,13 @@ import sys
 def usage_of(doc):
     """The usage in a tool's text, for its parser of words."""
     return doc.partition("usage: ")[2].partition("\n\n")[0]
+
+
+def path(word):
+    """The value of an option that names a file or a folder. An empty one, as of a shell's variable that isn't set, names none."""
+    if not word:
+        raise argparse.ArgumentTypeError("a name is wanted, and it is empty")
+    return word
 
 
 def run(main, doc):

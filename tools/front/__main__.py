@@ -124,7 +124,7 @@ def as_ended(status):
 
 def done_alone(option, words):
     """Does the task of an option, whose value and nothing else comes behind it."""
-    if len(words) != bool(option.value) or option.choices and words[0] not in option.choices:
+    if len(words) != bool(option.value) or words == [""] or option.choices and words[0] not in option.choices:
         wanted = " or ".join(option.choices) or ("a folder DIR" if option.value else "nothing else")
         raise usage.Fault(f"with --{option.name}, {wanted} is wanted", f"sbiboard {option}")
     if option == INSTALL and os.path.exists(os.path.join(words[0], "crates.txt")):

@@ -43,6 +43,8 @@ class Option:
     short: str = ""
     default: str = ""
     is_number: bool = False
+    # An empty value is none.
+    is_path: bool = False
     is_many: bool = False
     is_needed: bool = True
     excludes: str = ""
@@ -129,8 +131,8 @@ def number(name, value, about, **more):
 
 
 SECONDS = number("seconds", "N", "Explore orders for at most N seconds")
-FAILED = Option("failed", "The folder for records of conditions that fail, and of each `some` that is met", value="DIR", default=".")
-TAP = Option("tap", "Also write the points into FILE", value="FILE")
+FAILED = Option("failed", "The folder for records of conditions that fail, and of each `some` that is met", value="DIR", default=".", is_path=True)
+TAP = Option("tap", "Also write the points into FILE", value="FILE", is_path=True)
 
 
 def own(name, about, **more):
@@ -138,8 +140,8 @@ def own(name, about, **more):
 
 
 TAP_VERSION = own("tap-version", "The version of the Test Anything Protocol", value="VERSION", default="13", choices=("13", "14"))
-JUNIT = own("junit", "Also write the points into FILE as JUnit XML", value="FILE")
-HTML = own("html", "Draw the order of each point that fails as a page in DIR, with a list of these pages", value="DIR")
+JUNIT = own("junit", "Also write the points into FILE as JUnit XML", value="FILE", is_path=True)
+HTML = own("html", "Draw the order of each point that fails as a page in DIR, with a list of these pages", value="DIR", is_path=True)
 JSON = own("json", "Print JSON lines instead, read from the program's output")
 AT = own("at", "Print only the board's table behind line LINE of FILE", value="LINE", is_number=True)
 DIFF = own("diff", "Print below each step its changes to the board's table")

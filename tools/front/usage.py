@@ -123,13 +123,15 @@ class Reader:
 
     def check(self, option, values):
         if option.value and not values:
-            raise Fault(f"a value is required for '{option}' but none was supplied")
+            raise without_value(option)
         if option in (HELP, VERSION):
             raise Asked(self.command if option == HELP else None)
         if not option.is_many and self.given.pop(option.name, None) is not None:
             raise self.fault(f"the argument '{option}' cannot be used multiple times")
         self.given.setdefault(option.name, []).extend(values)
         for value in values:
+            if option.is_path and not value:
+                raise without_value(option)
             if option.is_number and (reason := why_no_number(value)):
                 raise Fault(f"invalid value '{value}' for '{option}': {reason}")
             if option.choices and value not in option.choices:
@@ -176,6 +178,10 @@ class Reader:
         if alike:
             tip = "\n\n  tip: " + ("a similar subcommand exists: " if len(alike) == 1 else "some similar subcommands exist: ")
         return self.fault(f"unrecognized subcommand '{word}'{tip}" + ", ".join(f"'{it}'" for it in alike))
+
+
+def without_value(option):
+    return Fault(f"a value is required for '{option}' but none was supplied")
 
 
 def excluding(option, other):

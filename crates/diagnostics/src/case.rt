@@ -28,7 +28,7 @@ impl<'a> Case<'a> {
         asked.trim()
     }
 
-    /// The text of a condition's first or second pattern, with its reply if that counts.
+    /// The text of the first or second pattern of a condition without `maybe`, with its reply if that counts.
     pub fn pattern_at(
         &self,
         alloc: Global,
@@ -142,10 +142,6 @@ impl<'a> Walk<'a> {
 /// The text behind the name of a condition.
 fn behind_name(asked: &[u8]) -> &[u8] {
     match next_word(asked) {
-        Some((b"maybe", after)) => match next_word(after) {
-            Some((_, behind)) => behind,
-            None => after,
-        },
         Some((_, after)) => after,
         None => asked,
     }

@@ -13,7 +13,7 @@ use Rattle.condition_script.specs.declared.rules.Rule.TheVariants.{NeverAfter}
 use Rattle.conditions.specs.Patterns.{FitsStep}
 use Rattle.marked_conditions.specs.Marked.{AnswersFit, FitsMark, HoldsWith, IsAtWith, IsFailingWith, IsFirstPlace, IsUnfitWith, MatchesWith, mark_of}
 
-contrary : (b : Bool) → b ≡ true → b ≡ false → ⊥
+pub contrary : (b : Bool) → b ≡ true → b ≡ false → ⊥
 contrary b good bad = cc
 
 -- what stands at a place

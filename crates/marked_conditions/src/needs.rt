@@ -2,35 +2,38 @@
 ghost use Rattle.std.specs.Prelude.{◌≡◌, ◌↔◌, ◌⊎◌, ℕ, length, true};
 ghost use Rattle.conditions.specs.Patterns.{FitsStep};
 ghost use Rattle.marked_conditions.specs.Marked.{IsAtWith, mark_of};
-ghost use Rattle.marked_conditions.specs.Needs.{HasTelling, IsTelling, MeetsFirstWith, MeetsSecondWith, is_fault, is_fetch, is_telling};
+ghost use Rattle.marked_conditions.specs.Needs.{HasTelling, IsTelling, MeetsFirstWith, MeetsSecondWith, could_have, is_fetch, is_of_page_fault, is_page_fault, is_telling, is_word};
 
-use crate::patterns::mark_of;
+use crate::patterns::{mark_of, told_mark};
 use crate::rules::first_with;
 use access_marks::Marks;
 use board_core::{Event, Op, Reply};
-use conditions::{NeedsMet, Pattern, Rule, fits_step};
+use conditions::{Mark, NeedsMet, Pattern, Rule, fits_step};
+use sv39::Cause;
 
 /// Adds the steps of a record with marks that a condition needs.
 pub fn see_needed(met: &mut NeedsMet, rule: &Rule, events: &[Event], marks: &[Marks])
     requires { length events.now ≡ length marks.now }
-    ensures first { (met.new.first ≡ true) ↔ ((met.old.first ≡ true) ⊎ MeetsFirstWith rule.now events.now) }
+    ensures first { (met.new.first ≡ true)
+        ↔ ((met.old.first ≡ true) ⊎ MeetsFirstWith rule.now events.now marks.now) }
     ensures second { (met.new.second ≡ true)
         ↔ ((met.old.second ≡ true) ⊎ MeetsSecondWith rule.now events.now marks.now) }
 {
-    met.first = met.first || meets_first(rule, events);
+    met.first = met.first || meets_first(rule, events, marks);
     met.second = met.second || meets_second(rule, events, marks);
 }
 
 /// Whether a record has the step that the first pattern needs.
-fn meets_first(rule: &Rule, events: &[Event]) -> bool
-    ensures { (result ≡ true) ↔ MeetsFirstWith rule.now events.now }
+fn meets_first(rule: &Rule, events: &[Event], marks: &[Marks]) -> bool
+    requires { length events.now ≡ length marks.now }
+    ensures { (result ≡ true) ↔ MeetsFirstWith rule.now events.now marks.now }
 {
     match rule {
-        Rule::Never(p) => has_telling(p, events),
-        Rule::NeverAfter(p, _) => has_telling(p, events),
-        Rule::OfSome(p) => has_telling(p, events),
-        Rule::Each(p) => has_telling(p, events),
-        Rule::Before(p, _) => has_telling(p, events),
+        Rule::Never(p) => has_telling(p, events, marks),
+        Rule::NeverAfter(p, _) => has_telling(p, events, marks),
+        Rule::OfSome(p) => has_telling(p, events, marks),
+        Rule::Each(p) => has_telling(p, events, marks),
+        Rule::Before(p, _) => has_telling(p, events, marks),
         Rule::End(_) | Rule::CanEnd(_) => false,
     }
 }
@@ -42,7 +45,7 @@ fn meets_second(rule: &Rule, events: &[Event], marks: &[Marks]) -> bool
 {
     match rule {
         Rule::NeverAfter(_, q) => has_matching(q, events, marks),
-        Rule::Before(_, q) => has_telling(q, events),
+        Rule::Before(_, q) => has_telling(q, events, marks),
         Rule::Never(_) | Rule::OfSome(_) | Rule::Each(_) | Rule::End(_) | Rule::CanEnd(_) => false,
     }
 }
@@ -55,12 +58,13 @@ fn has_matching(q: &Pattern, events: &[Event], marks: &[Marks]) -> bool
     first_with(q, events, marks, 0).is_some()
 }
 
-/// Whether some step has an actor and an operation that fit, and tells something of the pattern's mark, if it has one.
-pub fn has_telling(p: &Pattern, events: &[Event]) -> bool
-    ensures { (result ≡ true) ↔ HasTelling p.now events.now }
+/// Whether some step has an actor and an operation that fit, and the pattern's mark, if it has one, tells something of it.
+pub fn has_telling(p: &Pattern, events: &[Event], marks: &[Marks]) -> bool
+    requires { length events.now ≡ length marks.now }
+    ensures { (result ≡ true) ↔ HasTelling p.now events.now marks.now }
 {
-    for event in events {
-        if tells(p, event) {
+    for k in 0..events.len() {
+        if tells(p, &events[k], marks[k]) {
             return true;
         }
     }
@@ -68,27 +72,42 @@ pub fn has_telling(p: &Pattern, events: &[Event]) -> bool
 }
 
 /// Whether this step is such.
-fn tells(p: &Pattern, event: &Event) -> bool
-    ensures { (result ≡ true) ↔ (FitsStep p.now event.now × IsTelling (mark_of p.now) event.now) }
+fn tells(p: &Pattern, event: &Event, marks: Marks) -> bool
+    ensures { (result ≡ true) ↔ (FitsStep p.now event.now × IsTelling (mark_of p.now) event.now marks) }
 {
-    fits_step(p, event) && is_marked_telling(p, event)
+    fits_step(p, event) && is_marked_telling(p, event, marks)
 }
 
 /// Whether a pattern's mark, if it has one, tells something of a step.
-fn is_marked_telling(p: &Pattern, event: &Event) -> bool
-    ensures { (result ≡ true) ↔ IsTelling (mark_of p.now) event.now }
+fn is_marked_telling(p: &Pattern, event: &Event, marks: Marks) -> bool
+    ensures { (result ≡ true) ↔ IsTelling (mark_of p.now) event.now marks }
 {
     match mark_of(p) {
-        Some(_) => is_telling(event),
+        Some(mark) => is_telling(mark, event, marks),
         None => true,
     }
 }
 
-/// Whether a step is an access that is translated, is a fetch, or faults.
-fn is_telling(event: &Event) -> bool
-    ensures { result ≡ is_telling event.now }
+/// Whether a step has a mark, or could have had it.
+fn is_telling(mark: Mark, event: &Event, marks: Marks) -> bool
+    ensures { result ≡ is_telling mark event.now marks }
 {
-    event.translation().is_some() || (is_fetch(event.op()) || is_fault(event.reply()))
+    told_mark(mark, marks) || could_have(mark, event)
+}
+
+/// Whether other entries or fetched words could have given a step the mark: it used an entry, an entry could have kept it from
+/// its page fault, or, of `unsteady`, it fetched a word.
+fn could_have(mark: Mark, event: &Event) -> bool
+    ensures { result ≡ could_have mark event.now }
+{
+    match mark {
+        Mark::Stale => event.translation().is_some() || is_page_fault(event.reply()),
+        Mark::Unsteady => {
+            event.translation().is_some()
+                || (is_page_fault(event.reply())
+                    || (is_fetch(event.op()) && is_word(event.reply())))
+        }
+    }
 }
 
 fn is_fetch(op: Op) -> bool
@@ -100,11 +119,29 @@ fn is_fetch(op: Op) -> bool
     }
 }
 
-fn is_fault(reply: Reply) -> bool
-    ensures { result ≡ is_fault reply }
+fn is_word(reply: Reply) -> bool
+    ensures { result ≡ is_word reply }
 {
     match reply {
-        Reply::Fault(_) => true,
+        Reply::Value(_) => true,
+        _ => false,
+    }
+}
+
+fn is_page_fault(reply: Reply) -> bool
+    ensures { result ≡ is_page_fault reply }
+{
+    match reply {
+        Reply::Fault(cause) => is_of_page_fault(cause),
+        _ => false,
+    }
+}
+
+fn is_of_page_fault(cause: Cause) -> bool
+    ensures { result ≡ is_of_page_fault cause }
+{
+    match cause {
+        Cause::InstructionPageFault | Cause::LoadPageFault | Cause::StorePageFault => true,
         _ => false,
     }
 }

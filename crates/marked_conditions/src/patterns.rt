@@ -34,7 +34,7 @@ pub fn mark_of(p: &Pattern) -> Option<Mark>
 }
 
 /// Whether an access has a mark.
-fn told_mark(mark: Mark, marks: Marks) -> bool
+pub(crate) fn told_mark(mark: Mark, marks: Marks) -> bool
     ensures { result ≡ told_mark mark marks }
 {
     match mark {

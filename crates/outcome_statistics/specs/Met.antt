@@ -13,7 +13,7 @@ use Rattle.outcome_statistics.specs.Records.{SomeIs, Tried}
 -- marks.
 abbrev pub MeetsFirstOf : (asks : Bool) → Rule → Tried → Type 0
 MeetsFirstOf false rule tried = MeetsFirst rule tried.events
-MeetsFirstOf true rule tried = MeetsFirstWith rule tried.events
+MeetsFirstOf true rule tried = MeetsFirstWith rule tried.events tried.marks
 
 -- The same of the second pattern.
 abbrev pub MeetsSecondOf : (asks : Bool) → Rule → Tried → Type 0

@@ -2,6 +2,7 @@
 ghost use Rattle.std.specs.Prelude.{◌<◌};
 
 use crate::early::Early;
+use clap::builder::ValueParser;
 use clap::parser::ValueSource;
 use clap::{Arg, ArgAction, ArgMatches, Command, value_parser};
 use std::alloc::{AllocError, Global};
@@ -202,12 +203,14 @@ fn with_files<'a>(
     let failed = Arg::new(alloc, FAILED)
         .long(FAILED)
         .value_name("DIR")
+        .value_parser(ValueParser::NonEmptyString)
         .default_value(".")
         .help("The folder for records of conditions that fail, and of each `some` that is met");
     let command = command.arg(failed)?;
     let tap = Arg::new(alloc, TAP)
         .long(TAP)
         .value_name("FILE")
+        .value_parser(ValueParser::NonEmptyString)
         .help("Also write the points into FILE");
     let command = command.arg(tap)?;
     let file = Arg::new(alloc, FILE)

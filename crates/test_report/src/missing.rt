@@ -4,7 +4,7 @@ ghost use Rattle.test_report.specs.Missing.{IsLacking, Needs};
 
 use crate::records::event_line;
 use board_core::{Event, Op};
-use conditions::{Condition, Item, Name, NeedsMet, Pattern, Rule, fits_step};
+use conditions::{Condition, Item, Mark, Name, NeedsMet, Pattern, Rule, fits_step};
 use diagnostics::Case;
 use outcome_statistics::{Deed, Visits};
 use std::alloc::{AllocError, Global};
@@ -43,8 +43,8 @@ pub struct Missing {
 struct Others {
     /// Such a step has another reply.
     has_other_reply: bool,
-    /// The pattern has a mark, not a reply.
-    is_marked: bool,
+    /// The pattern's mark, if it has one in its reply's place.
+    mark: Option<Mark>,
     /// What the same actors do.
     instead: Vec<Instead>,
 }
@@ -74,7 +74,7 @@ impl Missing {
                 case,
                 condition.line,
                 is_second,
-                with_reply || has_mark(p),
+                with_reply || mark_of(p).is_some(),
             )?,
             is_second,
             others: Others::of(alloc, case, p, visits)?,
@@ -92,7 +92,7 @@ impl Others {
     ) -> Result<Others, AllocError> {
         let mut found = Others {
             has_other_reply: false,
-            is_marked: has_mark(p),
+            mark: mark_of(p),
             instead: Vec::new(alloc),
         };
         let like = of_its_kind(alloc, p)?;
@@ -177,7 +177,7 @@ impl Instead {
 impl fmt::Display for Missing {
     fn fmt<W: fmt::Write>(&self, f: &mut fmt::Formatter<W>) -> fmt::Result {
         if self.others.has_other_reply {
-            return write!(f, "{}", why_other(self.others.is_marked));
+            return write!(f, "{}", why_other(self.others.mark));
         }
         for (at, instead) in self.others.instead.iter().enumerate() {
             write!(f, "{}", if at == 0 { "; " } else { ", " })?;
@@ -193,11 +193,13 @@ impl fmt::Display for Missing {
 }
 
 /// Why a step isn't the needed one, though its actor and operation are.
-fn why_other(is_marked: bool) -> &'static str {
-    if is_marked {
-        "; such a step isn't translated, and neither fetches nor faults"
-    } else {
-        "; such a step has another reply"
+fn why_other(mark: Option<Mark>) -> &'static str {
+    match mark {
+        Some(Mark::Stale) => "; such a step uses no TLB entry, and takes no page fault",
+        Some(Mark::Unsteady) => {
+            "; such a step uses no TLB entry, takes no page fault, and fetches no word"
+        }
+        None => "; such a step has another reply",
     }
 }
 
@@ -259,9 +261,12 @@ fn sought(rule: &Rule, is_second: bool) -> Option<(&Pattern, bool)>
     }
 }
 
-/// Whether a pattern has a mark in its reply's place.
-fn has_mark(p: &Pattern) -> bool {
-    matches!(p.reply.first(), Some(Some(Item::Word(Name::Mark(_)))))
+/// The mark in the place of a pattern's reply, if there is one.
+fn mark_of(p: &Pattern) -> Option<Mark> {
+    match p.reply.first() {
+        Some(Some(Item::Word(Name::Mark(mark)))) => Some(*mark),
+        _ => None,
+    }
 }
 
 /// A pattern's text in a condition; `_` for any step.

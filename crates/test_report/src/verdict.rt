@@ -239,7 +239,7 @@ fn write_misfit<W: fmt::Write>(f: &mut fmt::Formatter<W>, misfit: Misfit) -> fmt
         }
         Misfit::Untold(mark) => {
             let mark = str::from_utf8(mark.word()).unwrap_or("");
-            write!(f, ": only schedules and traces tell what is {mark}")
+            write!(f, ": only records tell what is {mark}")
         }
         Misfit::NoMark(op, mark) => {
             let op = str::from_utf8(op.word()).unwrap_or("");

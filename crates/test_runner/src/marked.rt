@@ -1,5 +1,5 @@
 //! Conditions that ask of marks, judged on the record of a schedule or a trace.
-ghost use Rattle.std.specs.Prelude.{IfSome};
+ghost use Rattle.std.specs.Prelude.{◌≡◌, IfSome, length};
 ghost use Rattle.board_terms.specs.Limits.{IsGood};
 
 use access_marks::{Marks, marks_of};
@@ -84,14 +84,23 @@ pub(crate) fn failing_place(
 }
 
 /// Whether each pattern of a condition has a step in a record. Of a mark only a step counts of which it tells something.
-pub(crate) fn is_met_by(rule: &Rule, events: &[Event]) -> bool {
-    if !asks_of_marks(rule) {
-        return is_met(rule, events);
+pub(crate) fn is_met_by(rule: &Rule, events: &[Event], marks: &Option<Vec<Marks>>) -> bool {
+    match marks {
+        Some(marks) if asks_of_marks(rule) && marks.len() == events.len() => {
+            is_met_with(rule, events, marks)
+        }
+        _ => is_met(rule, events),
     }
+}
+
+/// Whether each pattern of a condition has a step in a record of which it tells something.
+fn is_met_with(rule: &Rule, events: &[Event], marks: &[Marks]) -> bool
+    requires { length events.now ≡ length marks.now }
+{
     match rule {
-        Rule::Never(p) | Rule::OfSome(p) | Rule::Each(p) => has_telling(p, events),
+        Rule::Never(p) | Rule::OfSome(p) | Rule::Each(p) => has_telling(p, events, marks),
         Rule::NeverAfter(p, q) | Rule::Before(p, q) => {
-            has_telling(p, events) && has_telling(q, events)
+            has_telling(p, events, marks) && has_telling(q, events, marks)
         }
         Rule::End(_) | Rule::CanEnd(_) => true,
     }

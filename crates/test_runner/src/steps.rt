@@ -129,7 +129,7 @@ fn judge<R: AllocGlobal + Files>(
         keep(trial, "failed", record, place, &mut point.details)?;
     }
     file.push(point)?;
-    if !is_misfit && !is_met_by(rule, record.events) {
+    if !is_misfit && !is_met_by(rule, record.events, marks) {
         file.note(Note::NeverMet(condition.line))?;
     }
     Ok(())

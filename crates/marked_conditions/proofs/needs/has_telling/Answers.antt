@@ -1,14 +1,18 @@
-use Rattle.std.proofs.Common.{arith}
-use Rattle.marked_conditions.proofs.Telling.{none-keep, none-whole}
+use Rattle.std.proofs.Common.{arith, below_more}
+use Rattle.marked_conditions.proofs.Firsts.{marks-are, marks_at}
+use Rattle.marked_conditions.proofs.Telling.{telling-not-here, telling-nowhere}
 use Rattle.marked_conditions.proofs.needs.has_telling.Goals as goal
 
-pub loop-event-preserved : goal.loop-event-preserved
-loop-event-preserved c =
-    none-keep c.args.p.now c.args.events.now c.loop-event.event-index c.event-item.result c.event-item.is
-    (λ fits. absurd (let yes = c.tells.ensures.1 fits in let no = c.if-tells.false in cc)) c.loop-event.invariant
+pub loop-k-preserved : goal.loop-k-preserved
+loop-k-preserved c =
+    let marks = c.args.marks.now in
+    let k = c.loop-k.k in
+    below_more _ c.loop-k.k c.loop-k.invariant
+    (telling-not-here c.args.p.now c.args.events.now c.args.marks.now c.loop-k.k c.index-events-k.result (marks_at marks k) c.tells.result
+    c.index-events-k.is (marks-are c.args.events.now marks k c.requires c.loop-k-test.true) c.tells.ensures.1 c.if-tells.false)
 
 pub returns : goal.returns
 returns c = (
   (λ bad. absurd (let t = bad in cc)),
-  (λ has. absurd (none-whole c.args.p.now c.args.events.now c.loop-event.event-index (let over = c.loop-event-test.false in omega arith) c.loop-event.invariant has)),
+  (λ has. absurd (telling-nowhere c.args.p.now c.args.events.now c.args.marks.now c.loop-k.k (omega arith) c.loop-k.invariant has)),
 )

@@ -1,5 +1,6 @@
-use Rattle.marked_conditions.proofs.Telling.{NoneBefore}
+use Rattle.std.proofs.Common.{ℕ, ◌<◌}
+use Rattle.marked_conditions.specs.Needs.{IsTellingAt}
 use Rattle.marked_conditions.proofs.needs.has_telling.Given as goal
 
-abbrev pub invariant-loop-event : goal.invariant-loop-event
-invariant-loop-event l = NoneBefore l.p l.events l.event-index
+abbrev pub invariant-loop-k : goal.invariant-loop-k
+invariant-loop-k l = (j : ℕ) → j < l.k → ¬ IsTellingAt l.p l.events l.marks j
