@@ -253,4 +253,6 @@ def guarded(words):
 
 
 if __name__ == "__main__":
+    # (a parent may have left it ignored, and then the status of each program and of each proof would be 0)
+    signal.signal(signal.SIGCHLD, signal.SIG_DFL)
     sys.exit(guarded(sys.argv[1:]))
