@@ -25,6 +25,9 @@ FAILED_IO, WRONG_KIND, UNBUILT = "sbiboard: input or output failed\n", "sbiboard
 UNWANTED = (
     (["tset", "a.sched"], 2, "  tip: a similar subcommand exists: 'test'\n"), (["replay", "--al", "a.sched"], 2, "unexpected argument '--al' found\n"),
     (["test", "--tiems", "5", "a.sched"], 2, "  tip: a similar argument exists: '--times'\n"), (["explore", "--times", "5", "a.program"], 2, "unexpected argument '--times' found\n"),
+    (["a.sched"], 2, "error: unrecognized subcommand 'a.sched'\n\n  tip: a file comes behind a task: 'test a.sched'\n"), (["none"], 2, "error: unrecognized subcommand 'none'\n\nUsage: "),
+    (["test", "a.sched", "--try"], 2, "error: unexpected argument '--try' found\n\n  tip: 'sbiboard --try test': it stands before the task\n"), (["check", "--try", "a.trace"], 2, "  tip: 'sbiboard --try check': it stands before the task\n"),
+    (["run", "--install", "d", "a.program"], 2, "  tip: 'sbiboard --install <DIR>': it stands alone\n"), (["explore", "--man"], 2, "  tip: 'sbiboard --man': it stands alone\n"),
     (["run", "none"], 7, FAILED_IO), (["replay", "none"], 7, FAILED_IO), (["check", "none"], 7, FAILED_IO), (["replay", "."], 7, FAILED_IO), (["check", ""], 7, FAILED_IO),
     (["run", "--keep", "./a.program", "a.program"], 7, FAILED_IO), (["replay", "a.sched/x"], 7, FAILED_IO),
     (["test", "a.sched", "none"], 1, "sbiboard: none: no such file\n" + UNBUILT), (["test", "."], 1, "sbiboard: .: is a directory\n" + UNBUILT),

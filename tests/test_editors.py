@@ -179,8 +179,9 @@ qall!
 """
 READS = r"""
 set runtimepath^=VIMFILES
+edit a.sched
+compiler! sbiboard
 edit b.sched
-compiler sbiboard
 cgetfile said
 call writefile(map(getqflist(), 'json_encode([v:val.bufnr ? bufname(v:val.bufnr) : "", v:val.lnum, v:val.col, v:val.text])'), 'told')
 call writefile([&makeprg], 'makes')

@@ -48,8 +48,8 @@ class Linux(Test):
         must(f"the report is {report.decode()}", report == read_bytes(os.path.join(RECORDS, "linux.report")))
         stored = unpacked(self.room, "linux.trace")
         must("the trace differs from linux.trace.gz", trace == read_bytes(stored))
-        picture, _ = tool([os.path.join(ROOT, "tools/timeline"), "--svg", "--steps", "2832-2855", stored])
-        must("docs/linux.svg isn't the picture of its steps 2832-2855", picture == read_bytes(os.path.join(ROOT, "docs/linux.svg")))
+        picture, _ = tool([os.path.join(ROOT, "tools/timeline"), "--svg", "--steps", "2833-2856", stored])
+        must("docs/linux.svg isn't the picture of its steps 2833-2856", picture == read_bytes(os.path.join(ROOT, "docs/linux.svg")))
 
     def test_linux__a_kernel_that_forgets_a_hart(self):
         """With one line of the kernel's TLB code changed the report names the hart that may hold what was unmapped, and the functions."""

@@ -49,7 +49,7 @@ WRONG = (
     (SCHEDULE, "0 ecal 1 2", 3, "unknown operation 'ecal' (fault 3): did you mean 'ecall'?"), (SCHEDULE, "0 SIP", 3, "did you mean 'sip'?"), (SCHEDULE, "h1 sip", 1, "an actor is c, or the number of a hart: did you mean '1'?"),
     (SCHEDULE, "C tick 1", 1, "did you mean 'c'?"), (SCHEDULE, "sip", 1, "a step begins with its actor"), (SCHEDULE, "128 sip", 1, "an actor is c, or the number of a hart: at most 127"), (SCHEDULE, "2 sip", 1, "the board has no hart 2: its harts are 0 to 1"), (SCHEDULE, "0x7f sip", 1, "the board has no hart 0x7f: its harts are 0 to 1"),
     (SCHEDULE, "0 load 80001000", 8, "80001000 is decimal, 0x4c4b7e8, and in no page of the RAM: did you mean '0x80001000'?"), (SCHEDULE, "0 load 0X10", 8, "did you mean '0x10'?"), (SCHEDULE, "0 load 8000a000", 8, "did you mean '0x8000a000'?"),
-    (SCHEDULE, "0 load 1_000", 8, "did you mean '1000'?"), (SCHEDULE, "0\u00a0sip", 2, "a blank that only looks like one"), (SCHEDULE, "0 load", 7, "a word is missing (fault 5)"), (SCHEDULE, "0 value 1", 3, "before a reply an arrow stands"),
+    (SCHEDULE, "0 load 1_000", 8, "did you mean '1000'?"), (SCHEDULE, "0\u00a0sip", 2, "a blank that only looks like one"), (SCHEDULE, "0 load", 7, "a word is missing (fault 5): it is 'load VA'"), (SCHEDULE, "0 value 1", 3, "before a reply an arrow stands"),
     (OF_TRACE, "1 load 0x1000 -> 0x11", 18, "no reply word stands before it: did you mean 'value 0x11'?"), (OF_TRACE, "1 sip -> 0x2", 10, "did you mean 'value 0x2'?"), (OF_TRACE, "0 advance -> 1", 14, "did you mean 'moved 1'?"), (OF_TRACE, "0 ecall 0x10 0 -> 0x1000000", 19, "did you mean 'ret 0 0x1000000'?"),
     (OF_TRACE, "0 sip -> valu 1", 10, "unknown reply 'valu' (fault 3): did you mean 'value'?"), (OF_TRACE, "0 sip ->", 9, "behind the arrow a reply is wanted"),
     (OF_TRACE, "1 fetch 0x1000 -> 0x11", 19, "did you mean 'value 0x11'?"), *((SCHEDULE, f"{word} sip", 1, "an actor is c, or the number of a hart: did you mean '1'?") for word in ("hart1", "H1:", "cpu_1", "CPU1:", "core1", "+1", "hart_1:")),
@@ -57,6 +57,12 @@ WRONG = (
     (PROGRAMS, "ecal 1 2", 1, "did you mean 'ecall'?"), (PROGRAMS, "poll", 1, "the firmware of a program does it by itself"), (PROGRAMS, "tick 1", 1, "'tick' stands in the block of the clock"), (PROGRAMS, "at 80001000", 4, "did you mean '0x80001000'?"),
     (PROGRAMS, "#! nevr 0 sip", 4, "unknown condition: 'nevr': did you mean 'never'?"), (PROGRAMS, "#! never 0 laod 1", 12, "unknown word: 'laod': did you mean 'load'?"), (PROGRAMS, "at 0x80000000", 4, "a second block of '0x80000000' (fault 7)"),
     (PROGRAMS, "amoswp 0x80000000 1", 1, "unknown operation 'amoswp' (fault 3): did you mean 'amoswap'?"), (SCHEDULE, "1 stre1 0x80000000 1", 3, "did you mean 'store1'?"), (SCHEDULE, "1 stor 0x80000000 1", 3, "unknown operation 'stor' (fault 3): did you mean 'store'?"), (PROGRAMS, "#! never 0 amoadd.W", 12, "did you mean 'amoadd.w'?"),
+    (SCHEDULE, "0 sip -> value 0", 1, "(fault 6): it has a reply, and the first step has none, as in a schedule"), (OF_TRACE, "0 sip", 1, "(fault 6): it has no reply, and the first step has one, as in a trace"),
+    *((OF_TRACE, line, 1, "(fault 6): the arrow is '->', between blanks") for line in ("0 sip => value 0", "0 sip->value 0", "0 load 0x80000000-> value 0", "0 sip = value 0", "0 sip > value 0")), (OF_TRACE, "1 sfence - -", 1, "it has no reply"),
+    (SCHEDULE, "0 sip => value 0", 7, "(fault 5): the arrow is '->', between blanks"), (SCHEDULE, "0 sip->value", 3, "(fault 3): the arrow is '->', between blanks"), *((PROGRAMS, line, 1, "an operation of a program has no actor") for line in ("0 sip", "c tick 1", "0 sip -> done", "cut")),
+    *((name, line, 1, f"a block is of a program, and this script begins with a step, as a {kind} does") for name, kind in ((SCHEDULE, "schedule"), (OF_TRACE, "trace")) for line in ("at 0x80000000", "clock")), (SCHEDULE, "0 cut", 3, "a cut stands alone, without an actor"),
+    (SCHEDULE, "0 sip 1", 7, "it is 'sip'"), (SCHEDULE, "cut 1", 5, "it is 'cut'"), (SCHEDULE, "0 ecall 1", 10, "it is 'ecall EID FID [A0 .. A5]'"), (OF_TRACE, "0 sip 1 -> done", 7, "it is 'sip'"), (OF_TRACE, "0 sip -> done 1", 15, "it is 'done'"), (OF_TRACE, "0 poll -> ret 0", 16, "it is 'ret ERROR VALUE'"),
+    (PROGRAMS, "at", 3, "it is 'at ADDR'"), (PROGRAMS, "clock 1", 7, "it is 'clock'"), (PROGRAMS, "store 1", 8, "it is 'store VA VALUE'"), (PROGRAMS, "amocas 1 2", 11, "it is 'amocas VA OLD NEW'"), (SCHEDULE, "0 sip # \u00e4", 9, "a script is ASCII, its comments too"),
 )  # fmt: skip
 # A line without a fault, of each kind.
 RIGHT = {SCHEDULE: "0 sip", OF_TRACE: "0 sip -> value 0x0", PROGRAMS: "at 0x80000000\nsip"}
@@ -492,15 +498,19 @@ class Explained(Made):
                 must(f"{task} {name} {text}", self.told(task, name, f"{BOARD}{text}\n") == [])
 
     def test_explain__all_faults_of_a_file(self):
-        """All faults of a file are told, sorted, also behind a faulty board line; at most twenty; lines of another kind once."""
+        """All faults of a file are told, sorted, also behind a faulty board line; at most twenty; of lines of another kind the first, with the others."""
         text = "\ufeffbord 2 4 100 0 0x80000000\n" + "".join(f"0 fly{at}\n0 sip\n" for at in range(5))
         must(f"{self.told('replay', 'a.sched', text)}", [it.split(":")[0] for it in self.told("replay", "a.sched", text)] == ["1", "1", "2", "4", "6", "8", "10"])
         told = self.told("replay", "a.sched", BOARD + "".join(f"0 fly{at}\n" for at in range(50)))
         must(f"{told}", [int(it.split(":")[0]) for it in told] == [*range(2, 22)])
         told = self.told("replay", "a.sched", BOARD + "0 sip\n" + "0 sip -> done\n" * 30 + "0 fly\n")
-        must(f"{told}", [it.split(":")[0] for it in told] == ["3", "33"] and told[0].endswith(", and 29 more such lines"))
+        must(f"{told}", [it.split(":")[0] for it in told] == ["3", "33"] and told[0].endswith(" (also 29 more lines, from line 4 on)"))
+        told = self.told("check", OF_TRACE, BOARD + "0 sipp -> done\n0 sip -> done\nhart0 sip\n0 wfi\n1 wfi\nhart1 sip -> done\n")
+        must(f"{told}", [it.split(":")[0] for it in told] == ["2", "4", "5"] and told[1].endswith(": did you mean '0'? (also line 7)") and told[2].endswith("as in a trace (also line 6)"))
         must("BOOTADDR", self.told("replay", "a.sched", "board 1 1 9 0 80000000 0\n0 sip\n") == ["1:15: bad board: BOOTADDR is 0x4c4b400, not an even address of the RAM: did you mean '0x80000000'?"])
-        must("nothing", self.told("replay", "a.sched", "") and self.told("check", "b.trace", "# none\n"))
+        for name, text in ((SCHEDULE, ""), (OF_TRACE, "# none\n"), (SCHEDULE, "0 advance\n")):
+            told = self.told(TASK[name], name, text)
+            must(f"{told}", len(told) == 1 and told[0].endswith("(fault 2): a script begins with 'board HARTS PAGES LIMIT BOOTHART BOOTADDR BOOTOPAQUE [ASIDLEN WIDTH]'"))
         # (a file of 16-bit characters, with a mark or without one, in either order)
         for coding, column in (("utf-16", 1), ("utf-16-be", 1), ("utf-16-le", 2)):
             told = self.told("replay", "a.sched", (BOARD + "0 sip\n").encode(coding))
@@ -521,19 +531,20 @@ class Explained(Made):
     def test_explain__kinds_and_files(self):
         """A script of another kind is told with the task that takes it, and a file that can't be opened with the cause."""
         self.put("a.trace", TRACE)
-        must("a trace", self.told("replay", "a.trace", TRACE) == ["2:1: a trace, and replay takes a schedule: did you mean 'check' or 'test'?", "3:1: the board has no hart 007: its harts are 0 to 0"])
+        behind = " Without its replies it is a schedule: sed 's/ -> .*//'"
+        must("a trace", self.told("replay", "a.trace", TRACE) == ["2:1: a trace, and replay takes a schedule: did you mean 'check' or 'test'?" + behind, "3:1: the board has no hart 007: its harts are 0 to 0"])
         of_kind = {"schedule": (BOARD + "0 advance\n", "replay"), "trace": (BOARD + "0 advance -> gone\n", "check"), "program": (BOARD + "at 0x80000000\nsip\n", "run")}
         for task, takes in (("replay", "schedule"), ("run", "program"), ("explore", "program")):
             for kind, (text, other) in of_kind.items():
                 told = self.told(task, "a.any", text)
-                must(f"{task}: {told}", told == ([] if kind == takes else [f"2:1: a {kind}, and {task} takes a {takes}: did you mean '{other}' or 'test'?"]))
+                must(f"{task}: {told}", told == ([] if kind == takes else [f"2:1: a {kind}, and {task} takes a {takes}: did you mean '{other}' or 'test'?" + (behind if (task, kind) == ("replay", "trace") else "")]))
         for name, why in (("none", "no such file"), (".", "is a directory"), ("a.trace/x", "can't be read")):
             for task in ("run", "replay", "check"):
                 must_end(self.called(task, "--explain", name), 7, "", f"sbiboard: {name}: {why}\n")
                 must_end(self.called(task, name), 7, "", "sbiboard: input or output failed\n")
         path = os.path.join(self.room, "clone/crates/sbiboard_cli/out/sbiboard_cli")
         os.remove(path)
-        for task, name, status, said in (("replay", "none", 7, "sbiboard: none: no such file\n"), ("replay", "a.trace", 1, "a.trace:2:1: a trace, and replay takes a schedule: did you mean 'check' or 'test'?\n")):
+        for task, name, status, said in (("replay", "none", 7, "sbiboard: none: no such file\n"), ("replay", "a.trace", 1, f"a.trace:2:1: a trace, and replay takes a schedule: did you mean 'check' or 'test'?{behind}\n")):
             must_end(self.called(task, "--explain", name), status, "", said)
 
     def test_explain__the_first_fault_is_the_proved_one(self):

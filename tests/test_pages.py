@@ -82,10 +82,13 @@ class Pages(Test):
         found = set(definitions_named(table))
         must(f"to be read, and not listed: {sorted(wanted - found)}; listed, and not to be read: {sorted(found - wanted)}", wanted and found == wanted)
         must(f"the page doesn't have a row for each of {promises}", re.findall(r"^\| `(\w+)`: ", table, re.M) == promises)
+        number = lambda it: int(it.replace(",", ""))
         told = re.search(r"some ([\d,]+) files and ([\d,]+) lines", page)
         sums = re.search(r"^(\d+) files, (\d+) lines$", text, re.M)
-        for said, counted in zip(told.groups(), sums.groups()):
-            must(f"the page says {told.group()}, and they are {sums.group()}", abs(int(said.replace(",", "")) - int(counted)) <= int(counted) / 20)
+        rows = [sum(map(number, re.findall(r"\| ([\d,]+) \|$", it, re.M))) for it in re.split(r"^(?=\| `\w+`: )", table, flags=re.M)[1:]]
+        counts = re.findall(r"^\w+: .*: \d+ files, (\d+) lines$", text, re.M)
+        for said, counted in [*zip(map(number, told.groups()), sums.groups()), *zip(rows, counts, strict=True)]:
+            must(f"the page says {said}, and they are {counted}", abs(said - int(counted)) <= int(counted) / 20)
 
     def test_the_README_is_short(self):
         text = dict(pages())["README.md"]

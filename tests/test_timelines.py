@@ -65,7 +65,7 @@ def picture(room):
     """The picture of the README is the one that the tool makes, and a long file has none."""
     made, _ = tool([TIMELINE, "--svg", os.path.join(EXAMPLES, "forgotten-hart.sched")])
     must("docs/forgotten-hart.svg isn't what tools/timeline --svg examples/forgotten-hart.sched prints", made == open(PICTURE, "rb").read())
-    part, _ = tool([TIMELINE, "--svg", "--steps", "4-9", os.path.join(EXAMPLES, "forgotten-hart.sched")])
+    part, _ = tool([TIMELINE, "--svg", "--steps", "5-10", os.path.join(EXAMPLES, "forgotten-hart.sched")])
     must("a picture of six steps has other ones", part.count(b'text-anchor="middle"') == 6 and b'viewBox="0 0 458 192"' in part)
     # (each call has its own word)
     found = tool([TIMELINE, "--svg", script(room, ("board 2 1 100 0 0x80000000 0\n" + "".join(f"{it}\n" for it, _ in WORDS)).encode())])[0].decode()
@@ -75,14 +75,14 @@ def picture(room):
     whole, _ = data_of(tool([TIMELINE, os.path.join(EXAMPLES, "forgotten-hart.sched")])[0])
     last, seen = len(whole["actors"]) - 1, set()
     for first, behind in ((0, last), (4, 9), (0, 3), (2, 17), (16, last), (19, last), (20, 20), (23, last), (last, last)):
-        part = tool([TIMELINE, "--svg", "--steps", f"{first}-{behind}", os.path.join(EXAMPLES, "forgotten-hart.sched")])[0].decode()
+        part = tool([TIMELINE, "--svg", "--steps", f"{first + 1}-{behind + 1}", os.path.join(EXAMPLES, "forgotten-hart.sched")])[0].decode()
         arrows = sum(first <= a and b <= behind for a, _, b, _, _ in whole["arrows"])
         stale = sum(first <= it <= behind for it in whole["stale"])
         marks, named = part.count('fill="none" stroke="#b00020"'), part.count(">stale</text>")
         must(f"steps {first} to {behind}: {part.count('marker-end=')} arrows, {marks} marks", (part.count("marker-end="), marks, named) == (arrows, stale + bool(stale), int(bool(stale))))
         seen |= {(bool(arrows), bool(stale))}
     must(f"{seen}", len(seen) == 4)
-    for words, said in ((["--svg"], b"are too many for a picture"), (["--svg", "--steps", "0-99999"], b"it has the steps 0-"), (["--svg", "--steps", "9-8"], b"it has the steps 0-")):
+    for words, said in ((["--svg"], b"are too many for a picture"), (["--svg", "--steps", "1-99999"], b"it has the steps 1-"), (["--svg", "--steps", "9-8"], b"it has the steps 1-")):
         must(f"{words}: another fault is told", said in tool([TIMELINE, *words, record("kernel")], 1)[1])
     tool([TIMELINE, "--svg", "--steps", "8", record("kernel")], 2)
     tool([TIMELINE, "--steps", "1-8", record("kernel")], 2)
@@ -366,9 +366,9 @@ c tick 5
         must("120 steps", printed_by([TIMELINE, "--svg", steps(120)])[0].count("<text ") > 120)
         _, said = printed_by([TIMELINE, "--svg", steps(121)], 1)
         must(said, said.endswith(": 121 steps are too many for a picture: at most 120\n"))
-        for chosen, is_there in (("0-119", True), ("119-119", True), ("0-0", True), ("0-120", False), ("120-120", False), ("5-4", False)):
+        for chosen, is_there in (("1-120", True), ("120-120", True), ("1-1", True), ("1-121", False), ("121-121", False), ("5-4", False), ("0-5", False)):
             out, said = printed_by([TIMELINE, "--svg", "--steps", chosen, steps(120)], 0 if is_there else 1)
-            must(f"{chosen}: {said}", bool(out) == is_there and said.endswith("" if is_there else ": it has the steps 0-119\n"))
+            must(f"{chosen}: {said}", bool(out) == is_there and said.endswith("" if is_there else ": it has the steps 1-120\n"))
         must("a page of 121 steps", len(of_one(dict(Parts(printed_by([TIMELINE, steps(121)])[0]).all_of("script"))["data"])["actors"]) == 121)
         for words, status in (([], 2), (["--fly", path], 2), ([path, path, path], 2), (["--svg", path, path], 2), ([os.path.join(self.room, "none")], 1), ([path, self.room], 1)):
             out, said = printed_by([TIMELINE, *words], status)

@@ -115,9 +115,9 @@ CALL = "0 call 0x10 0 0 0 0 0 0 0\n"
 # Hart 1 was in a call when the machine was reset.
 RESET = ENTRY + "1 entry 0x80000000 1 0\n" + CALL.replace("0 call", "1 call") + "m reset\n0 entry 0x80000000 0 0\n"
 BROKEN = [
-    ("", 1, "the first line is 'record HARTS'"),
+    ("", 1, "the first line must be 'record HARTS'"),
     ("record 0\n", 1, "a board has 1 to 128 harts"),
-    ("records 2\n", 1, "the first line is 'record HARTS'"),
+    ("records 2\n", 1, "the first line must be 'record HARTS', and not 'records 2'"),
     ("record 2\n", 1, "nothing was recorded"),
     (ENTRY + "0 call 0x10 0 0 0", 3, "the last line has no line feed: it is cut"),
     (ENTRY + "0 call 0x10 0 0 0\n", 3, "'call' has 8 numbers, and here are 4: is the line cut?"),

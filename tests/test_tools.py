@@ -111,6 +111,24 @@ class Tools(Test):
         found = subprocess.run([sys.executable, "-c", breaks], stdin=subprocess.DEVNULL, capture_output=True, text=True, timeout=60)
         must(f"{found}", found.returncode == 1 and "BrokenPipeError" in found.stderr)
 
+    def test_what_the_system_refuses_is_told_in_one_line(self):
+        """A full disk, a closed output and a file that isn't there are told in one line, with status 1."""
+        for name in tools():
+            words = PRINTS.get(name, ["--help"])
+            for output, why in (("> /dev/full", "No space left on device"), (">&-", "standard output is closed")):
+                found = subprocess.run(["bash", "-c", f'exec "$0" "$@" {output}', os.path.join(TOOLS, name), *words], stdin=subprocess.DEVNULL, stderr=subprocess.PIPE, text=True, timeout=60)
+                must(f"{name} {output}: {found}", (found.returncode, found.stderr) == (1, f"{name}: {why}\n"))
+        for name in ("record-stats", "timeline", "to-trace"):
+            for file, why in (("none", "No such file or directory"), (".", "Is a directory")):
+                found = subprocess.run([os.path.join(TOOLS, name), file], stdin=subprocess.DEVNULL, capture_output=True, text=True, timeout=60, cwd=self.room)
+                must(f"{name} {file}: {found}", (found.returncode, found.stdout, found.stderr) == (1, "", f"{name}: {file}: {why}\n"))
+
+    def test_the_status_of_a_child_counts(self):
+        """A child's status is known also where the tool's parent ignores that children end, as some that begin jobs do."""
+        calls = f"import subprocess, sys; sys.path.insert(0, {TOOLS!r})\nfrom entry import run\ndef main(): return subprocess.run(['false']).returncode\nrun(main, '')"
+        found = subprocess.run(["bash", "-c", "trap '' CHLD; \"$0\" -c \"$1\"", sys.executable, calls], stdin=subprocess.DEVNULL, capture_output=True, text=True, timeout=60)
+        must(f"{found}", found.returncode == 1 and not found.stderr)
+
     def test_the_tools_that_check_fail_where_something_is_wrong(self):
         """One wrong name, one old line of a page, or one crate more: the tool tells it, and its status is 1; and 0 where nothing is wrong."""
         root = checkout(self.room)

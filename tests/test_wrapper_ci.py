@@ -100,6 +100,16 @@ class Workflows(Test):
 class ManyRuns(Test):
     programs = ()
 
+    def test_seeds_are_counted_by_condition(self):
+        """The page's line counts of points of several seeds with how many each condition fails."""
+        counting = re.search(r"`(sed [^`]*out/\*\.tap[^`]*uniq -c)` counts the seeds with which each condition fails", read(PAGE))[1]
+        for seed, ends in ((1, "not ok 2"), (7, "not ok 12"), (10, "ok 2")):
+            holds = f"FILE: line 2: some 1 sip -> value 0: holds in some of 1,000 orders of unknown many, seed {seed}"
+            fails = f"FILE: line 3: end quiet: {'fails' if ends[0] == 'n' else 'holds'} in some of 1,000 orders of unknown many, seed {seed}"
+            put(os.path.join(self.room, f"out/{seed}.tap"), f"TAP version 13\nok 1 - {holds}\n{ends} - {fails}\n  ---\n  seed: {seed}\n  ...\n1..2\n")
+        found = subprocess.run(["bash", "-c", counting], cwd=self.room, capture_output=True, text=True, timeout=60)
+        must(f"{found}", found.stdout.split(None, 1) == ["2", "FILE: line 3: end quiet: fails in some of 1,000 orders of unknown many\n"] and not found.stderr)
+
     def test_the_makefile_of_many_runs(self):
         """It counts the statuses of each script, and fails where there is none."""
         if shutil.which("make") is None:

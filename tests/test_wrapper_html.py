@@ -186,6 +186,12 @@ class HtmlPages(Test):
             must(f"{words}: another count", f"<h1>Points that fail: {many}</h1>" in read(os.path.join(self.work, "pages/index.html")))
             must(f"{words}: {found}, {listed}", found[0] == status and len(listed) == many and f"pages/index.html lists the points that fail ({many}, and 0 drawn)\n" in found[2])
 
+    def test_html__no_room_for_a_page(self):
+        """A page for which there is no room is named with the reason and taken away; the points are told all the same."""
+        status, out, said = ran(self.room, ["bash", "-c", 'cd work; ulimit -f 8; exec "$@"', "-", self.front, "test", "--html", "new", "lost-wakeup.program"])
+        must_end((status, said), 7, "sbiboard: new/lost-wakeup.program.2.failed.html: File too large\n")
+        must(f"{out}", "not ok 1 - lost-wakeup.program: line 2" in out and not os.listdir(os.path.join(self.work, "new")))
+
     def test_html__older_points(self):
         """A file of points that this run hasn't written isn't taken for its own."""
         put(os.path.join(self.work, "points"), "not ok 1 - a.sched: line 1: x\n1..1\n")

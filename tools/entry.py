@@ -21,8 +21,14 @@ def path(word):
 def run(main, doc):
     """Does the tool's task, and ends with the status that `main` returns or exits with; asked for help it prints its text.
 
-    Where nobody reads on, as behind `| head`, it ends by SIGPIPE like any other command, but only once all is put away.
+    Where nobody reads on, as behind `| head`, it ends by SIGPIPE like any other command, but only once all is put away. What
+    the system refuses, such as a file that isn't there or a write to a full disk, is told in one line, with status 1.
     """
+    # (a parent may have left it ignored, and then each child's status would be 0)
+    signal.signal(signal.SIGCHLD, signal.SIG_DFL)
+    name = os.path.basename(sys.argv[0])
+    if sys.stdout is None:
+        sys.exit(f"{name}: standard output is closed")
     try:
         try:
             if {"-h", "--help"} & set(sys.argv[1:]):
@@ -38,6 +44,10 @@ def run(main, doc):
             raise
         signal.signal(signal.SIGPIPE, signal.SIG_DFL)
         os.kill(os.getpid(), signal.SIGPIPE)
+    except OSError as error:
+        status = f"{name}: {error.filename}: {error.strerror}" if error.filename else f"{name}: {error.strerror}"
+        # (what is still to be written would fail once more when Python ends)
+        os.dup2(os.open(os.devnull, os.O_WRONLY), 1)
     sys.exit(status)
 
 

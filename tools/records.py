@@ -102,7 +102,7 @@ def line_of(words, at):
 def head_of(words, at):
     """How many harts the record has, and the list of their ids, or none."""
     if words[0] != "record" or len(words) < 2:
-        raise Broken(at, "the first line is 'record HARTS'")
+        raise Broken(at, f"the first line must be 'record HARTS', and not '{' '.join(words)[:40]}'")
     harts, ids = number_of(words[1], at), sorted({number_of(word, at) for word in words[2:]})
     if not 1 <= harts <= MOST_HARTS:
         raise Broken(at, "a board has 1 to 128 harts")
@@ -131,7 +131,7 @@ def read(data):
     if text and not text.endswith("\n"):
         raise Broken(text.count("\n") + 1, "the last line has no line feed: it is cut")
     if head is None:
-        raise Broken(1, "the first line is 'record HARTS'")
+        raise Broken(1, "the first line must be 'record HARTS'")
     if lines and lines[-1].kind == "end":
         end = lines.pop().numbers[0]
     found = [line for line in lines if line.kind in OF_TABLES]

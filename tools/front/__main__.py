@@ -137,8 +137,8 @@ def done_alone(option, words):
 def installed(folder):
     try:
         install(os.fsdecode(folder.encode()))
-    except OSError:
-        raise Ended(BAD_FILE, FAILED_IO) from None
+    except OSError as error:
+        raise Ended(BAD_FILE, f"sbiboard: {error.filename or folder}: {error.strerror or 'not all could be copied'}\n") from None
     return ended(0, f"sbiboard: {folder}/sbiboard runs the programs beside it, which need the C library alone; help, and options that these programs don't have, also Python 3\n")
 
 
@@ -253,4 +253,6 @@ def guarded(words):
 
 
 if __name__ == "__main__":
+    # (a parent may have left it ignored, and then the status of each program and of each proof would be 0)
+    signal.signal(signal.SIGCHLD, signal.SIG_DFL)
     sys.exit(guarded(sys.argv[1:]))

@@ -124,7 +124,7 @@ def processors():
 
 def must_have_toolchain():
     if shutil.which("rt") is None:
-        raise NotBuilt("the toolchain's rt is not on the path")
+        raise NotBuilt("the toolchain's rt is not on the path (README.md, 'What you need')")
 
 
 # ---- lanes

@@ -19,6 +19,16 @@ GOOD_BOARD = b"board 128 256 1000000 0 0x80000000 0"
 BOARD_WORDS = ("HARTS", "PAGES", "LIMIT", "BOOTHART", "BOOTADDR", "BOOTOPAQUE", "ASIDLEN", "WIDTH")
 RAM, PAGE = 0x80000000, 4096
 TASK_OF = {"schedule": "replay", "trace": "check", "program": "run"}
+ARROW = "the arrow is '->', between blanks"
+WITHOUT_REPLIES = " Without its replies it is a schedule: sed 's/ -> .*//'"
+# How many numbers follow each word that begins a line, an operation or a reply, and how these are written.
+COUNTS = {**OPERATIONS, **{it: (many, many) for it, many in REPLIES.items()}, "board": (6, 8), "at": (1, 1), "clock": (0, 0), "cut": (0, 0)}
+FORMS = {
+    "board": "board HARTS PAGES LIMIT BOOTHART BOOTADDR BOOTOPAQUE [ASIDLEN WIDTH]", "at": "at ADDR", "ecall": "ecall EID FID [A0 .. A5]", "load": "load VA", "fetch": "fetch VA",
+    "satp": "satp VALUE", "sfence": "sfence VA ASID", "sie": "sie VALUE", "sstatus": "sstatus VALUE", "amocas": "amocas VA OLD NEW", "tick": "tick N",
+    **{it: f"{it} VA VALUE" for it, counts in OPERATIONS.items() if counts == (2, 2) and it != "sfence"},
+    "ret": "ret ERROR VALUE", "entry": "entry ADDR HART OPAQUE", "value": "value V", "fault": "fault CAUSE", "moved": "moved S", "refused": "refused N",
+}  # fmt: skip
 # What each operation that reads answers, for an answer without its word.
 ANSWERS = {"load": "value", "fetch": "value", "sip": "value", "advance": "moved", "ecall": "ret 0"}
 
@@ -30,6 +40,8 @@ class Found:
         self.line, self.column, self.what, self.fault = line, column, what, fault
         word = re.search(r" '(.*)'(?: \(fault \d\))?$", what)
         self.word = word[1] if word else ""
+        # Of a line of another kind: the script's kind, its own, and the other lines of which the same is true.
+        self.kinds, self.also = None, []
 
 
 # ---- who reads
@@ -103,22 +115,40 @@ def place_on_board(text, name):
 
 
 def faults(read, text):
-    """All faults of a text, as they are found by reading it again and again. A line of another kind is told once."""
-    lines, found, others = lines_of(text), [], 0
+    """All faults of a text, as they are found by reading it again and again. Of lines of another kind the first is told."""
+    lines, found = lines_of(text), []
     for turn in range(MOST_READ):
         fault = read(b"\n".join(lines))
         if fault is None or len(found) == MOST_TOLD:
             break
-        if fault.fault == KIND and any(it.fault == KIND for it in found):
-            others += 1
+        if fault.fault == KIND:
+            fault.kinds = kinds_at(lines, fault.line)
+        like = next((it for it in found if it.kinds and it.kinds == fault.kinds), None)
+        if like:
+            like.also.append(fault.line)
         else:
             found.append(fault)
         if not mend(lines, fault, turn):
             break
-    for it in found:
-        if it.fault == KIND and others:
-            it.what += f", and {others} more such line{'s' if others > 1 else ''}"
     return sorted(found, key=lambda it: (it.line, it.column))
+
+
+def kinds_at(lines, line):
+    """The kind that the first line behind the board line gives a script, and the kind of this line."""
+    rows = filter(None, ([word for _, word in words_of(it)] for it in lines))
+    next(rows)
+    return kind_of_line(next(rows)), kind_of_line([word for _, word in words_of(lines[line - 1])])
+
+
+def kind_of_line(words):
+    """The kind of script that a line behind the board line belongs to; an operation of a block alone to none."""
+    if is_step(words):
+        return "trace" if "->" in words else "schedule"
+    return "program" if words[0] in ("at", "clock") else ""
+
+
+def is_step(words):
+    return words[0] in ("c", "cut") or words[0][0].isdigit()
 
 
 def mend(lines, fault, turn):
@@ -135,6 +165,9 @@ def mend(lines, fault, turn):
         lines[at] = GOOD_BOARD
     elif fault.fault != KIND and words_of(row)[:1] and words_of(row)[0][1] == "at":
         lines[at] = b"at 0x%x" % (0xFFFF_0000_0000_0000 + turn)
+    elif fault.fault != KIND and words_of(row) and is_step([word for _, word in words_of(row)]):
+        # (the first step tells the script's kind)
+        lines[at] = b"0 sip -> done" if any(word == "->" for _, word in words_of(row)) else b"0 sip"
     else:
         lines[at] = b""
         # (the ticks of a second clock would be a hart's)
@@ -170,11 +203,11 @@ def hint(fault, row):
         return of_name(fault, words)
     if fault.fault == NO_NUMBER:
         return of_number(fault.word, bool(words) and words[0] == fault.word)
-    if fault.fault == COUNT and words[-1:] == ["->"]:
-        return "behind the arrow a reply is wanted, such as 'done'"
+    if fault.fault == COUNT:
+        return of_count(words)
     if fault.fault == KIND:
-        return of_actor(fault.word)
-    return alike(fault.word, ["board"]) if fault.fault == NO_BOARD else ""
+        return of_line(fault.kinds, words)
+    return (alike(fault.word, ["board"]) or "a script begins with '" + FORMS["board"] + "'") if fault.fault == NO_BOARD else ""
 
 
 def of_byte(rest):
@@ -182,7 +215,7 @@ def of_byte(rest):
         return "save the file as UTF-8 without a byte order mark"
     if rest[:2] in (b"\xff\xfe", b"\xfe\xff") or rest[:1] == b"\0":
         return "the file is UTF-16: save it as ASCII"
-    return "a blank that only looks like one: write a plain one" if rest.startswith(b"\xc2\xa0") else ""
+    return "a blank that only looks like one: write a plain one" if rest.startswith(b"\xc2\xa0") else "a script is ASCII, its comments too"
 
 
 def of_name(fault, words):
@@ -193,6 +226,10 @@ def of_name(fault, words):
             answer = ANSWERS.get(words[1] if arrow > 1 else "", "value")
             return f"no reply word stands before it: did you mean '{answer} {fault.word}'?"
         return alike(fault.word, REPLIES)
+    if has_other_arrow(words):
+        return ARROW
+    if fault.word == "cut":
+        return "a cut stands alone, without an actor"
     if fault.word in FIRMWARE_WORDS:
         return "the firmware of a program does it by itself"
     if fault.word == "tick" or fault.word in OPERATIONS:
@@ -210,6 +247,39 @@ def of_number(word, is_actor):
     if re.fullmatch(r"[+\d][\d_]*", word) and not word.isdigit():
         return f"did you mean '{re.sub('[+_]', '', word)}'?"
     return f"did you mean '0x{word}'?" if re.fullmatch(r"[0-9A-Fa-f]{1,16}", word) and not word.isdigit() else ""
+
+
+def of_count(words):
+    """Of a line with too many or too few words: the form of the part that has them."""
+    if words[-1:] == ["->"]:
+        return "behind the arrow a reply is wanted, such as 'done'"
+    if has_other_arrow(words):
+        return ARROW
+    arrow = words.index("->") if "->" in words else len(words)
+    begin = int(bool(words) and is_step(words) and words[0] != "cut")
+    for name, *numbers in filter(None, (words[begin:arrow], words[arrow + 1 :])):
+        least, most = COUNTS.get(name, (0, len(words)))
+        if not least <= len(numbers) <= most:
+            return f"it is '{FORMS.get(name, name)}'"
+    return ""
+
+
+def has_other_arrow(words):
+    return any("->" in it and it != "->" or it in ("=>", "=", ">") for it in words)
+
+
+def of_line(kinds, words):
+    """Of a line that is of another kind than the script, whose first line behind the board line says which that is."""
+    begun, kind = kinds
+    if kind == "program":
+        return f"a block is of a program, and this script begins with a step, as a {begun} does"
+    if begun == "program" and kind:
+        return "an operation of a program has no actor: its block says who does it"
+    if kind == "trace":
+        return "it has a reply, and the first step has none, as in a schedule"
+    if kind == "schedule" and has_other_arrow(words):
+        return ARROW
+    return "it has no reply, and the first step has one, as in a trace" if kind else of_actor(words[0])
 
 
 def of_actor(word):
@@ -266,7 +336,8 @@ def explained(program, command, name, text):
     lines, told = lines_of(text), []
     for it in faults(reader(program, command.program), text):
         meant = hint(it, lines[it.line - 1] if it.line <= len(lines) else b"")
-        told.append((it.line, it.column, it.what + (f": {meant}" if meant else "")))
+        also = f"{len(it.also)} more lines, from line {it.also[0]} on" if it.also[1:] else f"line {it.also[0]}" if it.also else ""
+        told.append((it.line, it.column, it.what + (f": {meant}" if meant else "") + (f" (also {also})" if also else "")))
     return said_of(name, [*told, *of_kind(command, text), *notes(text)])
 
 
@@ -275,7 +346,7 @@ def of_kind(command, text):
     kind = kind_of_text(text)
     if kind not in (None, *command.kinds):
         line = [at for at, row in enumerate(lines_of(text), 1) if words_of(row)][1]
-        yield line, 1, f"a {kind}, and {command.word} takes a {command.kinds[0]}: did you mean '{TASK_OF[kind]}' or 'test'?"
+        yield line, 1, f"a {kind}, and {command.word} takes a {command.kinds[0]}: did you mean '{TASK_OF[kind]}' or 'test'?" + (WITHOUT_REPLIES if (kind, command.word) == ("trace", "replay") else "")
 
 
 def said_of(name, told):

@@ -47,8 +47,16 @@ class Pages:
         self.put("index", self.index())
 
     def put(self, name, text):
-        with open(os.path.join(self.folder, f"{name}.html"), "w", encoding="utf-8") as file:
-            file.write(text.replace(HEAD, HEAD + MARK + "\n", 1))
+        """Writes a page whole, or none."""
+        path = os.path.join(self.folder, f"{name}.html")
+        try:
+            with open(path, "w", encoding="utf-8") as file:
+                file.write(text.replace(HEAD, HEAD + MARK + "\n", 1))
+        except OSError as error:
+            with contextlib.suppress(OSError):
+                os.remove(path)
+            # (a write that fails doesn't name its file)
+            raise OSError(error.errno, error.strerror, path) from None
 
     def page_of(self, point):
         """The name of a point's page and the step at which it opens, and what is said of it; without a page no name."""

@@ -26,8 +26,9 @@ def install(folder):
             build(crate, task)
     if not (os.path.isfile(program) and os.access(program, os.X_OK)):
         raise NotBuilt(f"there is no program to install: {program}")
+    script = os.path.join(folder, "sbiboard")
+    remove(script)
     put(program, os.path.join(folder, "sbiboard-program"))
-    put(os.path.join(HERE, "launcher"), os.path.join(folder, "sbiboard"))
     copy = os.path.join(folder, "sbiboard-tester")
     remove(copy)
     if is_current(tester, TESTER):
@@ -36,6 +37,8 @@ def install(folder):
     for ending, made in (*SHELLS.items(), ("1", man_page)):
         with open(os.path.join(folder, f"sbiboard.{ending}"), "w", encoding="utf-8") as file:
             file.write(made(INSTALLED))
+    # (the last, so that a copy that has it is whole)
+    put(os.path.join(HERE, "launcher"), script)
 
 
 def put(source, target):

@@ -1,5 +1,7 @@
 """Reads the words of a command line by the list of commands, as the programs read them: what is asked for, or the fault of usage."""
-from commands import HELP, HELP_COMMAND, VERSION
+import os
+
+from commands import ALONE, HELP, HELP_COMMAND, KNOWN, TRY, VERSION
 
 # A word is taken for a misspelt one from this likeness on.
 ALIKE = 0.7
@@ -161,6 +163,10 @@ class Reader:
 
     def unknown_long(self, name, rest):
         self.pass_over_pending()
+        first = next((it for it in (TRY, *ALONE) if it.name == name and it in KNOWN.options), None)
+        if first and self.command.file:
+            tip = f"'sbiboard --{name} {self.command.word}': it stands before the task" if first == TRY else f"'sbiboard {first}': it stands alone"
+            return self.unexpected(f"--{name}", f"\n\n  tip: {tip}", self.given)
         likest = likest_option(self.command, name)
         if likest:
             self.given.setdefault(likest, [])
@@ -177,6 +183,8 @@ class Reader:
         tip = ""
         if alike:
             tip = "\n\n  tip: " + ("a similar subcommand exists: " if len(alike) == 1 else "some similar subcommands exist: ")
+        elif os.path.exists(word.encode()):
+            tip = f"\n\n  tip: a file comes behind a task: 'test {word}'"
         return self.fault(f"unrecognized subcommand '{word}'{tip}" + ", ".join(f"'{it}'" for it in alike))
 
 

@@ -1,4 +1,4 @@
-" `:compiler sbiboard`, then `:make` tests the script at hand: its faults, the conditions that fail, the lines of a trace that
+" `:compiler! sbiboard`, then `:make` tests the script at hand: its faults, the conditions that fail, the lines of a trace that
 " differ. It reads what `sbiboard replay` and `sbiboard check` say, too.
 if exists('current_compiler')
   finish
