@@ -114,6 +114,8 @@ class Completions(Test):
         for task in tasks:
             must(f"the page lacks {task}", f"sbiboard {task} " in text)
         for task, options in rows.items():
+            usage = re.search(r"^Usage: (.*)$", said(*([task] if task else []), "--help"), re.M)[1]
+            must(f"the page lacks {usage}", not task or text.count(re.sub(r"<(\w+)>", r"\1", usage)) == 2)
             for _, name, value in options:
                 must(f"the page lacks --{name}", f"--{name} {value}".strip() in text)
             for line in said(*([task] if task else []), "--help").partition("\nOptions:\n")[2].splitlines():

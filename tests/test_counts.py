@@ -125,5 +125,10 @@ class Counts(Test):
         run([front, "--no-skips"], self.room, path)
         called = read(os.path.join(self.room, "called")).splitlines()
         must(f"--no-skips isn't asked of each part: {called}", called == ["bin/rt ci", "tests/run --no-skips"])
+        # (a part that asks a child is answered, also where a parent has left it ignored that children end)
+        asks = "#!/usr/bin/env python3\nimport subprocess\nprint('1 passed,', subprocess.run(['false']).returncode, 'failed')\n"
+        for name in ("bin/rt", "tests/run"):
+            write(os.path.join(self.room, name), asks)
+        must_end(run(["bash", "-c", f"trap '' CHLD; exec {front}"], self.room, path), 1, "2 passed, 2 failed, 0 skipped")
         found = run([front, "--quick"], self.room, path)
         must(f"of another word: {found}", (found.returncode, found.stdout) == (2, ""))

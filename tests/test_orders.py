@@ -632,4 +632,4 @@ class Orders(Test):
                     must_be_as_by_seeds(self.room, command)
         made = {**os.environ, "PATH": f"{self.room}:{os.environ['PATH']}"}
         found = subprocess.run(["examples/orders/forgotten-hart.program"], cwd=self.room, capture_output=True, text=True, timeout=HANG, env=made)
-        must(f"{found}", found.returncode == 1 and len(fours) == 4)
+        must(f"{found}", found.returncode == 1 and len(fours) == 3)

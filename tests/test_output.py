@@ -456,6 +456,9 @@ class Boards(Made):
         for line in (0, 2, last + 1, 10**15):
             must_end(self.called("replay", "--at", str(line), "every.sched"), 2, "", f"sbiboard: --at {line}: every.sched has a board from line 3 on, and {last} lines\n")
         must_end(self.called("replay", "--at", "-1", "every.sched")[:2], 2, "")
+        for line in (3, next(it for it in range(4, last) if it not in self.boards)):
+            must_end(self.called("replay", "--diff", "--at", str(line), "every.sched"), 2, "", f"sbiboard: --at {line} --diff: this line of every.sched has no step\n")
+            must_end(self.called("replay", "--at", str(line), "every.sched")[::2], 0, "")
         self.put("bad.sched", BOARD + "0 advance\n0 fly\n")
         must_end(self.called("replay", "--at", "2", "bad.sched"), 1, "", "sbiboard: line 3: fault 3\n")
         self.put("long.sched", BOARD + "0 sip\n" * 10_001)

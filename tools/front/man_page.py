@@ -54,7 +54,7 @@ def as_lines(text):
 
 
 def command_lines(command):
-    lines = [f".SS {escaped(command.word)}", f"{word(command.usage())}", ".PP", escaped(command.about + ".")]
+    lines = [f".SS {escaped(command.word)}", f"{word(command.usage(with_own=True))}", ".PP", escaped(command.about + ".")]
     lines += item(word(str(command.file)), command.file.about + ".")
     for it in command.options:
         lines += option_item(it)
@@ -67,7 +67,7 @@ def man_page(known):
     for it in (*known.commands, known):
         shared.setdefault(it.after, []).append(it.word)
     lines = [f'.TH SBIBOARD 1 "" "{escaped(version().strip())}" "User Commands"', ".SH NAME", f"sbiboard \\- {escaped(known.about[0].lower() + known.about[1:])}"]
-    calls = [*(it.usage() for it in (*known.commands, HELP_COMMAND)), *(f"sbiboard {it}" for it in known.options if it in ALONE)]
+    calls = [*(it.usage(with_own=True) for it in (*known.commands, HELP_COMMAND)), *(f"sbiboard {it}" for it in known.options if it in ALONE)]
     lines += [".SH SYNOPSIS", "\n.br\n".join(map(word, calls)), ".SH OPTIONS"]
     lines += [line for it in known.options for line in option_item(it)]
     lines += [".SH COMMANDS"] + [line for it in known.commands for line in command_lines(it)]

@@ -162,6 +162,8 @@ class Replay:
         last = len(lines_of(script.text)) - script.text.endswith(b"\n")
         if self.at is not None and not places[0] <= self.at <= last:
             return USAGE, f"sbiboard: --at {self.at}: {script.file} has a board from line {places[0]} on, and {last} lines\n"
+        if script.asks(DIFF) and self.at is not None and self.at not in places[1:]:
+            return USAGE, f"sbiboard: --at {self.at} --diff: this line of {script.file} has no step\n"
         if script.asks(DIFF) and self.at is None and len(places) > MOST_DIFFED + 1:
             return USAGE, f"sbiboard: --diff tells of at most {MOST_DIFFED:,} steps, and {script.file} has {len(places) - 1:,}: --at LINE --diff tells of one\n"
         lines = self.json_lines() if self.is_json else self.lines()
