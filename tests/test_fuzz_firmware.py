@@ -148,8 +148,8 @@ KEY, OTHER = ("breaks the standard", "an error is one of the list"), ("breaks th
 class Small(fuzzing.Runs):
     """Runs that show a fault where these operations are kept, and another one where others are."""
 
-    def __init__(self, needed):
-        self.needed, self.made = needed, 0
+    def __init__(self, needed, seconds=60):
+        self.needed, self.made, self.seconds = needed, 0, seconds
 
     def run(self, asked):
         self.made += 1
@@ -312,6 +312,10 @@ class FuzzFirmware(Test):
         runs = Small({(0, 0), (3, 9)})
         found = runs.smaller(runs.run(fuzzing.Asked(1, 4, 10)), KEY, 3)
         must(f"{sorted(found.asked.all())} in {runs.made} runs", runs.made <= 4 and KEY in found.faults)
+        # (nor is there a new run once the time is over)
+        runs = Small({(0, 0), (3, 9)}, 0)
+        found = runs.smaller(runs.run(fuzzing.Asked(1, 4, 10)), KEY, 400)
+        must(f"{sorted(found.asked.all())} in {runs.made} runs", runs.made <= 2 and KEY in found.faults)
 
     def image(self):
         """The payload, built here and now; or the test is skipped."""

@@ -189,6 +189,7 @@ WRONG = [
     *((f"{what} at a resume that nothing of this board ends", TWO + FAR_RESUME + f"{more}\n", "breaks", 7) for what, more in (("sstatus.SIE", " sstatus=1"), ("satp", " satp=0x8000000000080400"))),
     *((f"{what} at an entry of a hart that went on otherwise", LOST + answered(HSM, 0, 1, 0x80200100, 9) + f"1 entry 0x80200100 1 9{more}\n", "breaks", 10)
       for what, more in (("sstatus.SIE", " sstatus=1"), ("satp", " satp=0x8000000000080400"))),
+    ("a deadline that wakes a hart, and isn't enabled", MAY_WRITE + OWN_DEADLINE.replace("sie=0x20", "sie=0x2"), UNEXPLAINED, 7),
     ("a deadline that wakes a hart, and was set for ever", TWO + answered(TIME, 0, ALL, hart=1) + OWN_DEADLINE, UNEXPLAINED, 9),
     ("a state behind a reset that was refused", TWO + answered(SRST, 0, 0, 0xE0000000, ret="-3 0") + answered(HSM, 2, 1, ret="0 1"), UNEXPLAINED, 8),
 ]  # fmt: skip

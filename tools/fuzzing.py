@@ -19,6 +19,8 @@ MOST_HARTS, MOST_OPERATIONS = 8, 256
 QUIET, REBOOTS, NOWHERE, HANGS = 1, 2, 4, 8
 # What each hart tells in a whole run, by the numbers of rules.TOLD; of fences those tell that one asked.
 TOLD_BY_EACH, FENCES = {5: "IPIs", 7: "timers", 8: "registers"}, 6
+# For how many limits of a run a fault is made small: a run in which all harts hang takes a whole one.
+LIMITS = 5
 SILENT, GIVEN_UP, NOT_READ = "nothing was printed", "given up", "the record can't be read"
 
 
@@ -146,7 +148,7 @@ class Runs:
     def __init__(self, image, bios, room, seconds):
         with open(image, "rb") as file:
             self.image = file.read()
-        self.bios, self.room, self.seconds, self.made, self.since = bios, room, seconds, 0, time.monotonic()
+        self.bios, self.room, self.seconds, self.made = bios, room, seconds, 0
 
     def run(self, asked):
         """The verdict on a run."""
@@ -158,24 +160,28 @@ class Runs:
         return Verdict(record_in(console, end), asked, silence(console, end, self.seconds))
 
     def smaller(self, verdict, key, most):
-        """A verdict of the same fault on fewer operations, by bisection, in at most so many runs."""
-        end, best = self.made + most, verdict
+        """A verdict of the same fault on fewer operations, by bisection, in at most so many runs, and no new one behind LIMITS limits of one."""
+        end, best = (self.made + most, time.monotonic() + LIMITS * self.seconds), verdict
         for asked in (best.asked.but(checks=0),):
             best = self.again(asked, key, end) or best
         size = (len(best.asked.all()) + 1) // 2
         while size:
             at = 0
-            while at < len(best.asked.all()) and self.made < end:
+            while at < len(best.asked.all()) and not self.is_over(end):
                 kept = best.asked.all()
                 found = self.again(best.asked.but(kept=kept[:at] + kept[at + size :]), key, end)
                 best, at = (found, at) if found else (best, at + size)
             size //= 2
         return best
 
+    def is_over(self, end):
+        runs, until = end
+        return self.made >= runs or time.monotonic() > until
+
     def again(self, asked, key, end):
         """The same fault, in one of three runs; harts may go in another order each time."""
         for _ in range(3):
-            if self.made >= end:
+            if self.is_over(end):
                 return None
             verdict = self.run(asked)
             if key in verdict.faults:

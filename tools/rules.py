@@ -261,8 +261,8 @@ def rule_of_wake(state, hart, sip, has_stimecmp):
         return None
     if sip & SEI:
         return "externals"
-    if sip & STI and (has_stimecmp or it.deadline is None):
-        return "stimecmp"
     if state.board.sip(hart):
         return "wake"
-    return "fences don't wake" if hart in state.fenced else None
+    if hart in state.fenced:
+        return "fences don't wake"
+    return "stimecmp" if sip & it.sie & STI and (has_stimecmp or it.deadline is None) else None
