@@ -1,4 +1,4 @@
-"""What conditions say of accesses on any TLB: which are stale, and which are unsteady, of schedules and traces, and of tried orders."""
+"""What conditions say of accesses on any TLB: which are stale, which a fence call missed, and which are unsteady, of schedules and traces, and of tried orders."""
 from .fixtures import TESTER, Test, must, told
 from .test_empty_verdicts import in_way, points
 
@@ -36,12 +36,47 @@ RESET = BEFORE + LOADED + REMAPPED + "0 ecall 0x53525354 0 2 0\n0 advance\n0 sat
 # A schedule, and which of these conditions it meets.
 CASES = (
     (FORGOTTEN, {"never stale": False, "steady": False, "steady 1": True, "steady 1 load 0x1000": True, "never 2 load -> stale": False, "some 2 load -> stale": True, "each 2 load -> stale": False, "never 1 -> stale": True,
-        "never 2 _ -> stale after 0 poll": False, "before 0 poll, 2 load -> stale": True, "before 2 load -> unsteady, 1 serve": False, "some 1 load -> unsteady": False, "never _ -> unsteady": False, "maybe never stale": False}),
+        "never missed": False, "never 1 -> missed": True, "some 2 load 0x1000 -> missed": True, "never 2 -> missed after 0 poll": False, "before 0 poll, 2 load -> missed": True, "each 2 load -> missed": False, "never 2 _ -> stale after 0 poll": False, "before 0 poll, 2 load -> stale": True, "before 2 load -> unsteady, 1 serve": False, "some 1 load -> unsteady": False, "never _ -> unsteady": False, "maybe never stale": False}),
     (AHEAD, {"never stale": True, "steady": False, "steady 2": True, "some 1 load -> unsteady": True, "some 1 load 0x1000 -> stale": False}), (FENCED, {"never stale": True, "steady": True, "each 1 load -> unsteady": False}),
     (OTHER_SATP, {"never stale": True, "steady": False, "steady 2": True}), (OTHER_PAGE, {"never stale": False, "steady": False, "steady 2": True}), (SAME_PAGE, {"never stale": True, "steady": True}),
-    (AMO, {"never stale": False, "steady 1": True, "never 2 amoadd -> stale": False, "some 2 amoadd 0x1000 5 -> unsteady": True, "never 1 amoadd.w -> unsteady": True}),
+    (AMO, {"never stale": False, "steady 1": True, "never 2 amoadd -> stale": False, "some 2 amoadd 0x1000 5 -> unsteady": True, "never 1 amoadd.w -> unsteady": True, "never missed": True}),
     (FETCHED.replace("1 fencei\n", ""), {"steady": False}), (FETCHED + "1 fetch 0x80004000\n", {"never stale": True, "steady": False, "steady 1 fetch": False}), (FETCHED + "1 fencei\n1 fetch 0x80004000\n", {"steady": True}), (FETCHED + "0 fencei\n1 fetch 0x80004000\n", {"steady": False}),
     (FETCHED + "0 store 0x80004000 0x11\n1 fetch 0x80004000\n", {"steady": False}), (FETCHED + "1 load 0x80004000\n", {"steady": True}), (RESET, {"steady": True, "never stale": True}),
+)  # fmt: skip
+# Whether a fence call missed a load by an old translation: the call covers it, it succeeded, and the tables haven't given the old
+# page since it was made.
+MISSED = {"never missed": False, "never stale": False, "never 1 -> missed": True, "some 2 load -> missed": True}
+UNMISSED = {"never missed": True, "never stale": False, "some 2 load -> stale": True}
+AGAIN = "0 store 0x80003008 0x200010c7\n" + REMAPPED
+
+
+def call(words, ends="1 serve\n0 poll\n"):
+    """Hart 0 asks for a remote fence, of hart 1 alone."""
+    return f"0 ecall 0x52464e43 {words}\n{ends}"
+
+
+def uses_old(calls, remapped=REMAPPED, is_global=False):
+    """Harts 1 and 2 load from the page, hart 0 remaps it and makes these calls, and hart 2 loads from it again."""
+    text = BEFORE.replace("3 6 100", "3 6 140") + LOADED + remapped + calls + "2 load 0x1000\n"
+    return text.replace("0x200010c7", "0x200010e7") if is_global else text
+
+
+COVERING, ELSEWHERE = call("1 0x2 0 0x1000 0x1000"), call("1 0x2 0 0x2000 0x1000")
+FENCE_CALLS = (
+    # Which calls cover the load: those of a range with the page, of all addresses, of the hart's address space.
+    (uses_old(COVERING), MISSED), (uses_old(call("1 0x2 0 0x0 0x5000")), MISSED), (uses_old(call("1 0x2 0 0x1fff 1")), MISSED), (uses_old(call("1 0x2 0 0x0 0x1001")), MISSED), (uses_old(call("1 0x2 0 0 0")), MISSED), (uses_old(call("1 0x2 0 5 0xffffffffffffffff")), MISSED),
+    (uses_old(ELSEWHERE), UNMISSED), (uses_old(call("1 0x2 0 0x0 0x1000")), UNMISSED), (uses_old(call("0 0x2 0")), UNMISSED),
+    (uses_old(call("2 0x2 0 0x1000 0x1000 5")), MISSED), (uses_old(call("2 0x2 0 0 0 5")), MISSED), (uses_old(call("2 0x2 0 0x1000 0x1000 6")), UNMISSED),
+    (uses_old(COVERING, is_global=True), MISSED), (uses_old(call("2 0x2 0 0x1000 0x1000 5"), is_global=True), UNMISSED),
+    # A call that is refused, and one that still waits.
+    (uses_old(call("1 0x2 0 0xfffffffffffff000 0x2000", "")), UNMISSED), (uses_old(call("1 0x2 0 0x1000 0x1000", "")), UNMISSED), (uses_old(call("1 0x2 0 0x1000 0x1000", "1 serve\n")), UNMISSED),
+    # The tables still gave the old page when the call was made, or gave it again later.
+    (uses_old(COVERING + REMAPPED, ""), UNMISSED), (uses_old(COVERING, ""), {"never missed": True, "never stale": True}),
+    (uses_old(COVERING + AGAIN), UNMISSED), (uses_old(COVERING + AGAIN + COVERING), MISSED),
+    # Of several calls one is enough, and a later one of another page takes nothing back.
+    (uses_old(COVERING + ELSEWHERE), MISSED), (uses_old(ELSEWHERE + COVERING), MISSED), (uses_old(ELSEWHERE + call("1 0x2 0 0x1000 0x1000", "")), UNMISSED),
+    # Any hart may make the call, and forget itself. A local fence is no call.
+    (uses_old("2 ecall 0x52464e43 1 0x2 0 0x1000 0x1000\n1 serve\n2 poll\n"), MISSED), (uses_old("1 sfence 0x1000 -\n"), UNMISSED),
 )  # fmt: skip
 # What kernels get wrong, each beside its mended twin: the condition that tells them apart, the wrong lines, and the right ones.
 MORE = BEFORE.replace("3 6 100", "3 12 100")
@@ -52,22 +87,25 @@ GLOBAL = MORE.replace("0x200010c7", "0x200010e7") + LOADED + "0 store 0x80003008
 # A superpage, whose part a table takes over.
 SUPER = MORE.replace("1 satp", "0 store 0x80002008 0x200000c7\n1 satp") + "1 load 0x204000\n"
 SPLIT = "0 store 0x80002008 0x20002401\n1 load 0x204000\n"
+# A right that is taken away, and a store by the old one.
+PROTECTED = MORE + LOADED + "0 store 0x80003008 0x20001043\n"
 READ_ONLY = MORE.replace("0x200010c7", "0x20001043") + LOADED
 # A hart that is off while the page is mapped anew.
 OFF = MORE + "1 load 0x1000\n1 ecall 0x48534d 1\n1 advance\n" + REMAPPED + "0 ecall 0x48534d 0 1 0x80000000 0\n1 advance\n1 satp 0x8000500000080001\n"
 TWINS = (
-    ("never stale", FORGOTTEN, BEFORE + LOADED + REMAPPED + ASK + SERVED + LOADED), ("steady", FORGOTTEN, BEFORE + LOADED + REMAPPED + ASK + SERVED + LOADED),
+    ("never stale", FORGOTTEN, BEFORE + LOADED + REMAPPED + ASK + SERVED + LOADED), ("never missed", FORGOTTEN, BEFORE + LOADED + REMAPPED + ASK + "1 load 0x1000\n" + SERVED + LOADED), ("steady", FORGOTTEN, BEFORE + LOADED + REMAPPED + ASK + SERVED + LOADED),
     ("steady", BEFORE + LOADED + REMAPPED + ASK + "1 load 0x1000\n" + SERVED, BEFORE + LOADED + REMAPPED + ASK + SERVED + "1 load 0x1000\n"),
     ("steady", AHEAD, BEFORE + REMAPPED + ASK + SERVED + "1 load 0x1000\n"),
     ("steady", READ_ONLY + "0 store 0x80003008 0x200010c7\n1 store 0x1000 5\n", READ_ONLY + "0 store 0x80003008 0x200010c7\n1 load 0x1000\n"),
+    ("never missed", PROTECTED + call("1 0x4 0 0x1000 0x1000", "2 serve\n0 poll\n") + "1 store 0x1000 5\n", PROTECTED + ASK + SERVED + "1 store 0x1000 5\n"),
     ("steady", MORE + LOADED + "0 store 0x80003008 0x20001043\n1 store 0x1000 5\n", MORE + LOADED + "0 store 0x80003008 0x20001043\n" + ASK + SERVED + "1 store 0x1000 5\n"),
     ("steady", SECOND + "1 satp 0x8000500000080006\n1 load 0x1000\n", SECOND + "1 satp 0x8000600000080006\n1 load 0x1000\n"), ("never stale", SECOND + "1 satp 0x8000500000080006\n1 load 0x1000\n", SECOND + "1 satp 0x8000500000080006\n1 sfence - 5\n1 load 0x1000\n"),
     ("never stale", GLOBAL + "1 sfence - 5\n1 load 0x1000\n", GLOBAL + "1 sfence - -\n1 load 0x1000\n"), ("steady", GLOBAL + "1 sfence 0x1000 5\n1 load 0x1000\n", GLOBAL + "1 sfence 0x1000 -\n1 load 0x1000\n"),
     ("steady", SUPER + "0 store 0x80009020 0x200014c7\n" + SPLIT, SUPER + "0 store 0x80009020 0x200010c7\n" + SPLIT), ("steady", OFF + "1 load 0x1000\n", OFF + "1 sfence - -\n1 load 0x1000\n"),
 )  # fmt: skip
 # What no record has.
-WRONG = (("never 1 poll -> stale", "no poll is stale"), ("some c -> unsteady", "no tick is unsteady"), ("never 9 load -> stale", "the board has no hart 9"), ("never 0 sstatus 7 -> stale", "no sstatus has 7"))
-FAULTS = (("never 1 load -> stal", "unknown word: 'stal'"), ("never 1 load -> stale 1", "too few or too many words: '1'"), ("never stale 1", "'1'"), ("some stale", "not a number: 'stale'"), ("steady c tick -> done", "not a number: '->'"))
+WRONG = (("never 1 poll -> stale", "no poll is stale"), ("never 1 sfence -> missed", "no sfence is missed"), ("some c -> unsteady", "no tick is unsteady"), ("never 9 load -> stale", "the board has no hart 9"), ("never 0 sstatus 7 -> stale", "no sstatus has 7"))
+FAULTS = (("never 1 load -> stal", "unknown word: 'stal'"), ("never 1 load -> miss", "unknown word: 'miss'"), ("never missed 1", "'1'"), ("never 1 load -> stale 1", "too few or too many words: '1'"), ("never stale 1", "'1'"), ("some stale", "not a number: 'stale'"), ("steady c tick -> done", "not a number: '->'"))
 
 
 START = """\
@@ -110,9 +148,9 @@ FORGETS, FENCES = shootdown("0x2"), shootdown("0x6")
 WINDOW = shootdown("0x6", USES.replace("wfi\n", "load 0x1000\nwfi\n"))
 # A program, and which of these conditions its orders meet.
 PROGRAMS = (
-    (FORGETS, {"never stale": False, "steady": False, "steady 1": True, "never 1 -> stale": True, "some 2 load -> stale": True, "each 2 load -> stale": False, "never 2 -> stale after 0 poll": False, "before 0 poll, 2 load -> stale": True, "maybe never stale": False}),
-    (FENCES, {"never stale": True, "steady": True, "some 2 load -> stale": False, "never _ -> unsteady after 0 poll": True}),
-    (WINDOW, {"never stale": False, "steady": False, "never _ -> stale after 0 poll -> ret 0 _": True, "some _ load -> stale": True}),
+    (FORGETS, {"never missed": False, "never 1 -> missed": True, "some 2 load -> missed": True, "never stale": False, "steady": False, "steady 1": True, "never 1 -> stale": True, "some 2 load -> stale": True, "each 2 load -> stale": False, "never 2 -> stale after 0 poll": False, "before 0 poll, 2 load -> stale": True, "maybe never stale": False}),
+    (FENCES, {"never missed": True, "never stale": True, "steady": True, "some 2 load -> stale": False, "never _ -> unsteady after 0 poll": True}),
+    (WINDOW, {"never missed": True, "never stale": False, "steady": False, "never _ -> stale after 0 poll -> ret 0 _": True, "some _ load -> stale": True}),
 )  # fmt: skip
 
 
@@ -126,6 +164,13 @@ class Marks(Test):
                 status, lines = told(self.room, "".join(f"#! {it}\n" for it in asked) + script, name="a.sched")
                 found = [it.startswith("ok ") for it in lines if it.startswith(("ok ", "not ok "))]
                 must(f"{script}: {lines}", found == list(asked.values()) and status == (0 if all(found) else 1))
+
+    def test_what_fence_calls_miss(self):
+        """A load is missed exactly by a call that covers it, that succeeded, and since which the tables haven't given what it used."""
+        for text, asked in FENCE_CALLS:
+            status, lines = told(self.room, "".join(f"#! {it}\n" for it in asked) + text, name="a.sched")
+            found = [it.startswith("ok ") for it in lines if it.startswith(("ok ", "not ok "))]
+            must(f"{text}: {lines}", found == list(asked.values()) and status == (0 if all(found) else 1) and not any("refused" in it for it in lines))
 
     def test_known_answers(self):
         """A condition finds what kernels get wrong, and nothing in the mended twin."""
@@ -188,7 +233,7 @@ class Marks(Test):
 
     def test_explore_judges_no_marks(self):
         """`explore` makes no records, so it judges no such condition, and says so. It judges the others."""
-        for asked in ("never stale", "steady", "maybe never 0 load -> stale", "some 0 load -> unsteady", "each 0 load -> stale"):
+        for asked in ("never stale", "never missed", "steady", "maybe never 0 load -> stale", "some 0 load -> unsteady", "each 0 load -> stale"):
             status, found, lines = in_way(self.room, ("sbiboard explore", ()), f"#! {asked}\n#! end quiet\nboard 1 2 9 0 0x80000000 0\nat 0x80000000\nload 0x80001000\n")
             must(f"{asked}: {lines}", status == 8 and found[0].startswith(f"not ok line 1: {asked}: not judged: only records tell marks, and explore makes none: use test") and found[1].startswith("ok line 2") and not any("record:" in it for it in lines))
 

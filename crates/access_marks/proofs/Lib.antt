@@ -6,3 +6,7 @@ pub mod Following
 pub mod Quieting
 pub mod MarkedSteps
 pub mod Leaves
+pub mod CallSteps
+pub mod MissedAccesses
+pub mod UseWatching
+pub mod Catching

@@ -71,7 +71,7 @@ legal-at o events i event inside is legal =
     (legal-older o (reverse (drop (i + 1) events)) (reverse (take (i + 1) events))
     (subst (IsLegal o) (ap reverse (sym (take-append-drop (i + 1) events)) ∙ reverse-append (take (i + 1) events) (drop (i + 1) events)) legal))
 
-next-of : (o : Opening) (past : List Event) (event : Event) → IsLegal o (event ∷ past) → IsNext o past event
+pub next-of : (o : Opening) (past : List Event) (event : Event) → IsLegal o (event ∷ past) → IsNext o past event
 next-of o past event legal = record { answered = legal.0; uses = legal.1 }
 
 legal-next : (o : Opening) (past : List Event) (event : Event) → IsLegal o past → IsNext o past event → IsLegal o (event ∷ past)

@@ -1,6 +1,8 @@
 -- Private: what no clause of a public call names.
 pub mod Accessed
+pub mod Calls
 pub mod Changes
 pub mod Following
+pub mod Missing
 pub mod Quiet
 pub mod Words

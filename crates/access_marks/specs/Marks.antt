@@ -4,17 +4,19 @@ use Rattle.board_terms.specs.declared.op.Actor.{Actor}
 use Rattle.board_terms.specs.declared.op.Actor.TheVariants.{Hart, Clock}
 use Rattle.board_core.specs.History.{Event, Reach, access_of}
 use Rattle.board_core.specs.Opening.{Opening}
-use Rattle.any_tlb.specs.Stale.{IsStale}
+use Rattle.any_tlb.specs.Stale.{IsMissed, IsStale}
 use Rattle.any_tlb.specs.Steady.{IsSteadyReach}
 use Rattle.access_marks.specs.declared.marks.Marks.{Marks}
 
 -- no mark
 abbrev pub unmarked : Marks
-unmarked = record { stale = false; unsteady = false }
+unmarked = record { stale = false; missed = false; unsteady = false }
 
--- The marks of an access by hart h, which the event is: whether it is stale, and whether it isn't steady.
+-- The marks of an access by hart h, which the event is: whether it is stale, whether a fence call missed it, and whether
+-- it isn't steady.
 pub record IsMarkedAs (o : Opening) (past : List Event) (h : ℕ) (event : Event) (reach : Reach) (marks : Marks) : Type 0 where
   pub stale : (marks.stale ≡ true) ↔ IsStale o past h event reach
+  pub missed : (marks.missed ≡ true) ↔ IsMissed o past h event reach
   pub steady : (marks.unsteady ≡ false) ↔ IsSteadyReach o past h reach
 
 -- The marks of an event after a history. An event that is no access of a hart has none.

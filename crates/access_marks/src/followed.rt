@@ -9,6 +9,7 @@ ghost use Rattle.board_core.specs.Opening.{Opening, opening_at};
 ghost use Rattle.board_core.specs.Replies.{IsLegal};
 ghost use Rattle.board_laws.specs.Steady.{no_tlb};
 ghost use Rattle.any_tlb.specs.Effects.{effect_at};
+ghost use Rattle.any_tlb.specs.Stale.{IsMissed};
 ghost use Rattle.any_tlb.specs.Steady.{IsSteady, IsSteadyFetch, IsSteadyReach};
 ghost use Rattle.tlb_watch.specs.declared.hart_address.HartAddress.{HartAddress as Place};
 ghost use Rattle.tlb_watch.specs.Effects.{effect_on};
@@ -20,12 +21,15 @@ ghost use Rattle.access_marks.specs.Inside.Following.{IsNext};
 ghost use Rattle.access_marks.specs.Inside.Words.{AreNoted};
 ghost use Rattle.access_marks.specs.Marks.{IsMarkedAs, IsMarkedStep};
 
+use crate::call_step::CallStep;
 use crate::changes::{Written, changed, written_by};
 use crate::effects::{effect_of, is_quiet, satps};
+use crate::entry_use::EntryUse;
 use crate::marks::Marks;
+use crate::missing::UseWatches;
 use crate::taking::takes;
 use crate::words::{WordNote, differs, note_change, note_effect};
-use any_tlb::watched_words_decide;
+use any_tlb::{missed_is_stale, watched_words_decide};
 use board_core::{Actor, Board, Cause, Config, Entry, Event, Kind, Op};
 use board_rules::access_of;
 use hart_access::{Access, Way};
@@ -43,11 +47,14 @@ pub(crate) struct Followed {
     board: Board,
     tracker: Tracker,
     notes: Vec<WordNote>,
+    uses: UseWatches,
 }
 
 impl Model for Followed {
+    ghost use Rattle.std.specs.List.{All};
     ghost use Rattle.tlb_watch.specs.Tracked.{IsTracking, addresses_of};
     ghost use Rattle.access_marks.specs.Inside.Following.{Following};
+    ghost use Rattle.access_marks.specs.Inside.Missing.{IsKept};
     ghost use Rattle.access_marks.specs.Inside.Words.{AreNoted};
 
     ghost Value = { Following };
@@ -55,7 +62,8 @@ impl Model for Followed {
     ghost view = { λ f. record { course = f.board; addresses = addresses_of f.tracker } };
 
     ghost invariant = { λ f. IsTracking f.board.opening f.board.past (addresses_of f.tracker) f.tracker
-        × AreNoted f.board.opening f.board.past f.notes.items };
+        × AreNoted f.board.opening f.board.past f.notes.items
+        × All (IsKept f.board.opening f.board.past) f.uses.watches.items };
 }
 
 impl Followed {
@@ -87,38 +95,99 @@ impl Followed {
             board,
             tracker,
             notes: Vec::new(alloc),
+            uses: UseWatches::new(alloc),
         })
     }
 
-    /// The marks of the next event.
-    pub(crate) fn marks(&self, event: &Event) -> Marks
-        requires { IsWatched self.now.course.opening.config.harts self.now.addresses event.now }
-        ensures { IsMarkedStep self.now.course.opening self.now.course.past event.now event.now.actor
-            (access_of event.now.op) result }
+    /// The marks of the next event, on a board from its first opening on.
+    ///
+    /// # Errors
+    ///
+    /// Out of memory.
+    pub(crate) fn marks(&mut self, alloc: Global, event: &Event) -> Result<Marks, AllocError>
+        requires first { self.old.course.opening ≡ opening_at self.old.course.opening.config }
+        requires watched { IsWatched self.old.course.opening.config.harts self.old.addresses event.now }
+        ensures same { IfOk result (λ _. self.new ≡ self.old) }
+        ensures marked { IfOk result (λ marks. IsMarkedStep self.old.course.opening self.old.course.past event.now event.now.actor
+            (access_of event.now.op) marks) }
     {
         match event.actor() {
             Actor::Hart(hart) => match access_of(event.op()) {
                 Some((address, access)) => {
-                    self.access_marks(HartAddress { hart, address }, access, event.translation())
+                    let at = HartAddress { hart, address };
+                    self.access_marks(alloc, at, access, event.translation())
                 }
-                None => Marks::none(),
+                None => Ok(Marks::none()),
             },
-            Actor::Clock => Marks::none(),
+            Actor::Clock => Ok(Marks::none()),
         }
     }
 
     /// The marks of an access that uses this entry.
-    fn access_marks(&self, at: HartAddress, access: Access, used: Option<Entry>) -> Marks
-        requires present { at.hart < self.now.course.opening.config.harts }
-        requires watched { Contains self.now.addresses at }
-        ensures { (event : Step) → event.translation ≡ used
-            → IsMarkedAs self.now.course.opening self.now.course.past at.hart event
-            (record { va = at.address; access = access }) result }
+    ///
+    /// # Errors
+    ///
+    /// Out of memory.
+    fn access_marks(
+        &mut self,
+        alloc: Global,
+        at: HartAddress,
+        access: Access,
+        used: Option<Entry>,
+    ) -> Result<Marks, AllocError>
+        requires first { self.old.course.opening ≡ opening_at self.old.course.opening.config }
+        requires present { at.hart < self.old.course.opening.config.harts }
+        requires watched { Contains self.old.addresses at }
+        ensures same { IfOk result (λ _. self.new ≡ self.old) }
+        ensures marked { IfOk result (λ marks. (event : Step) → event.translation ≡ used
+            → IsMarkedAs self.old.course.opening self.old.course.past at.hart event
+            (record { va = at.address; access = access }) marks) }
     {
-        Marks {
-            stale: is_stale(&self.board, at, access, used),
-            unsteady: !self.is_steady(at, access),
+        let unsteady = !self.is_steady(at, access);
+        let by = used;
+        let stale = is_stale(&self.board, at, access, by);
+        let missed = self.is_missed(alloc, at, access, used)?;
+        Ok(Marks {
+            stale,
+            missed,
+            unsteady,
+        })
+    }
+
+    /// Whether a fence call missed an access that uses this entry.
+    ///
+    /// # Errors
+    ///
+    /// Out of memory.
+    fn is_missed(
+        &mut self,
+        alloc: Global,
+        at: HartAddress,
+        access: Access,
+        used: Option<Entry>,
+    ) -> Result<bool, AllocError>
+        requires first { self.old.course.opening ≡ opening_at self.old.course.opening.config }
+        requires present { at.hart < self.old.course.opening.config.harts }
+        ensures same { IfOk result (λ _. self.new ≡ self.old) }
+        ensures missed { IfOk result (λ missed. (event : Step) → event.translation ≡ used
+            → (missed ≡ true) ↔ IsMissed self.old.course.opening self.old.course.past at.hart event
+            (record { va = at.address; access = access })) }
+    {
+        missed_is_stale();
+        let by = used;
+        if !is_stale(&self.board, at, access, by) {
+            return Ok(false);
         }
+        let Some(entry) = used else {
+            return Ok(false);
+        };
+        let of = EntryUse {
+            at,
+            kind: access.kind(),
+            entry,
+            satp: self.board.view().satp_register(at.hart),
+        };
+        self.uses.has_missed(alloc, &self.board, of)
     }
 
     /// Whether an access is steady, with the word that it fetches.
@@ -208,7 +277,9 @@ impl Followed {
             mut board,
             tracker,
             mut notes,
+            uses,
         } = self;
+        let call = CallStep::of(board.config(), event);
         let effect = effect_of(&board, event);
         let word = written_by(&board.view(), event);
         if !takes(&mut board, event) {
@@ -216,10 +287,12 @@ impl Followed {
         }
         note(&mut notes, &board, word, effect)?;
         let tracker = track(alloc, tracker, &board, event.op(), effect)?;
+        let uses = uses.happened(alloc, &board, call)?;
         Ok(Some(Followed {
             board,
             tracker,
             notes,
+            uses,
         }))
     }
 }

@@ -1,14 +1,18 @@
-//! The marks of a record's accesses: which are stale, and which aren't steady.
+//! The marks of a record's accesses: which are stale, which a fence call missed, and which aren't steady.
 #![tactic(auto)]
 
 mod accessed;
+mod call_step;
 mod changes;
 mod effects;
+mod entry_use;
 mod followed;
 mod laws;
 mod marking;
 mod marks;
+mod missing;
 mod taking;
+mod use_watch;
 mod words;
 
 pub use laws::unmarked_is_steady;

@@ -12,7 +12,8 @@ use board_core::{Config, Event};
 use std::alloc::{AllocError, Global};
 
 /// The marks of each event of a record, oldest first, on a board with these numbers from its first opening on. None: the record
-/// isn't a history of such a board. The cost is linear in the events, and for each in the addresses that the record accesses.
+/// isn't a history of such a board. The cost is linear in the events, and for each in the addresses that the record accesses, and in
+/// its different stale accesses.
 ///
 /// # Errors
 ///
@@ -34,7 +35,7 @@ pub fn marks_of(
     let mut followed = Followed::new(alloc, config, &addresses)?;
     let mut marks = Vec::with_capacity(alloc, events.len())?;
     for event in events {
-        let found = followed.marks(event);
+        let found = followed.marks(alloc, event)?;
         let Some(after) = followed.step(alloc, event)? else {
             return Ok(None);
         };

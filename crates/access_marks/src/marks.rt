@@ -7,6 +7,9 @@ ghost use Rattle.access_marks.specs.Marks.{unmarked};
 pub struct Marks {
     /// The access is stale: the entry that it used gave it another physical address, or another fault, than the page tables.
     pub stale: bool,
+    /// The access was missed: a fence call that covers it succeeded, and the page tables haven't given what its entry gave since the
+    /// call was made.
+    pub missed: bool,
     /// The access isn't steady: some TLB that the standard allows may give it another physical address or fault than the page
     /// tables, or, if it is a fetch, some instruction cache another word than the memory.
     pub unsteady: bool,
@@ -19,6 +22,7 @@ impl Marks {
     {
         Marks {
             stale: false,
+            missed: false,
             unsteady: false,
         }
     }

@@ -45,7 +45,7 @@ fn is_use(a: Option<Entry>, b: Option<Entry>) -> bool
 }
 
 /// Whether two entries are the same.
-fn is_entry(a: Entry, b: Entry) -> bool
+pub(crate) fn is_entry(a: Entry, b: Entry) -> bool
     ensures { (result ≡ true) ↔ (a ≡ b) }
 {
     is_leaf(a.leaf(), b.leaf()) && a.asid() == b.asid()

@@ -11,7 +11,7 @@ use Rattle.line_words.specs.Values.{is_number, number_in, signed_in}
 use Rattle.condition_script.specs.declared.keywords.Keyword.{Keyword}
 use Rattle.condition_script.specs.declared.keywords.Keyword.TheVariants as keywords
 use Rattle.condition_script.specs.declared.marks.Mark.{Mark}
-use Rattle.condition_script.specs.declared.marks.Mark.TheVariants.{Stale, Unsteady}
+use Rattle.condition_script.specs.declared.marks.Mark.TheVariants.{Missed, Stale, Unsteady}
 use Rattle.condition_script.specs.declared.rules.Ending.{Ending}
 use Rattle.condition_script.specs.declared.rules.Ending.TheVariants as endings
 use Rattle.condition_script.specs.Grammar.{ending_named, ending_word, keyword_named, keyword_word, mark_name, mark_named, number_item}
@@ -112,6 +112,7 @@ ending_own endings.Stuck = refl
 pub mark_own : (mark : Mark) → mark_named (mark_name mark) ≡ Some mark
 unfolding mark_named
 mark_own Stale = refl
+mark_own Missed = refl
 mark_own Unsteady = refl
 
 pub any_is_no_mark : mark_named (codes "_") ≡ None
@@ -125,11 +126,13 @@ clock_is_no_mark = refl
 pub mark_is_no_said : (mark : Mark) → said_named (mark_name mark) ≡ None
 unfolding said_named
 mark_is_no_said Stale = refl
+mark_is_no_said Missed = refl
 mark_is_no_said Unsteady = refl
 
 pub mark_is_no_hart : (limit : ℕ) (mark : Mark) → number_in limit (mark_name mark) ≡ None
 unfolding number_in is_number
 mark_is_no_hart limit Stale = refl
+mark_is_no_hart limit Missed = refl
 mark_is_no_hart limit Unsteady = refl
 
 -- ---- numbers

@@ -11,7 +11,7 @@ use Rattle.condition_script.specs.declared.items.Item.{Item}
 use Rattle.condition_script.specs.declared.keywords.Keyword.{Keyword}
 use Rattle.condition_script.specs.declared.keywords.Keyword.TheVariants as keywords
 use Rattle.condition_script.specs.declared.marks.Mark.{Mark}
-use Rattle.condition_script.specs.declared.marks.Mark.TheVariants.{Stale, Unsteady}
+use Rattle.condition_script.specs.declared.marks.Mark.TheVariants.{Missed, Stale, Unsteady}
 use Rattle.condition_script.specs.Grammar.{AreEndings, ArePatterns, AsksActor, AsksName, AsksNumber, BeginsAsking, ConditionValue, HasCondition, HaveConditions, IsAsked, IsAsking, IsNameAndNumbers, IsNameOf, IsOperation, IsPattern, IsRule, IsRuleOf, IsStepOrAny, IsStepPattern, RuleValue, Wanted, asked_words, ending_named, ending_word, has_mark, keyword_named, keyword_word, mark_name, mark_named, number_item, with_commas}
 use Rattle.condition_script.specs.declared.rules.Ending.{Ending}
 use Rattle.condition_script.specs.FirstFault.{HasOneReading, IsBeginning, IsCondition, IsFaultColumn, IsFirstUnreadable, IsLongestBeginning, IsReadable, IsUnreadable, column_behind}
@@ -116,6 +116,7 @@ actor_is_no_mark mark item (inr (inr a)) = let e = sym a.1 ∙ mark_is_no_hart l
 
 no_arrow : (mark : Mark) → has_mark (codes "->") (mark_name mark ∷ []) ≡ true → ⊥
 no_arrow Stale e = cc
+no_arrow Missed e = cc
 no_arrow Unsteady e = cc
 
 pub no_after : (mark : Mark) (words : List (List ℕ)) → words ≡ mark_name mark ∷ [] → has_mark (codes "after") words ≡ true → ⊥
@@ -123,6 +124,7 @@ no_after mark words is e = by_mark mark (subst (λ (ws : List (List ℕ)). has_m
   where
     by_mark : (mark : Mark) → has_mark (codes "after") (mark_name mark ∷ []) ≡ true → ⊥
     by_mark Stale e = cc
+    by_mark Missed e = cc
     by_mark Unsteady e = cc
 
 mark_is_no_pattern : (mark : Mark) (p : Wanted) → IsPattern (mark_name mark ∷ []) p → ⊥

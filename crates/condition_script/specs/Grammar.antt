@@ -17,7 +17,7 @@ use Rattle.condition_script.specs.declared.items.Item.TheVariants.{Word, Number,
 use Rattle.condition_script.specs.declared.keywords.Keyword.{Keyword}
 use Rattle.condition_script.specs.declared.keywords.Keyword.TheVariants as keywords
 use Rattle.condition_script.specs.declared.marks.Mark.{Mark}
-use Rattle.condition_script.specs.declared.marks.Mark.TheVariants.{Stale, Unsteady}
+use Rattle.condition_script.specs.declared.marks.Mark.TheVariants.{Missed, Stale, Unsteady}
 use Rattle.condition_script.specs.declared.names.Name.TheVariants.{Clock, Op, Said}
 use Rattle.condition_script.specs.declared.names.Name.TheVariants as names
 use Rattle.condition_script.specs.declared.patterns.Pattern.{Pattern}
@@ -87,10 +87,11 @@ most_numbers true = SAID_NUMBERS
 -- the words of marks
 abbrev pub mark_name : Mark → List ℕ
 mark_name Stale = codes "stale"
+mark_name Missed = codes "missed"
 mark_name Unsteady = codes "unsteady"
 
 abbrev pub mark_names : List Mark
-mark_names = Stale ∷ Unsteady ∷ []
+mark_names = Stale ∷ Missed ∷ Unsteady ∷ []
 
 -- the mark that a word names
 unfoldable pub mark_named : List ℕ → Option Mark

@@ -7,6 +7,8 @@ ghost use Rattle.condition_script.specs.Grammar.{mark_name, mark_named};
 pub enum Mark {
     /// `stale`: the entry that the access used gave it another physical address, or another fault, than the page tables.
     Stale,
+    /// `missed`: a fence call that covers the access succeeded, and the page tables haven't given what its entry gave since the call.
+    Missed,
     /// `unsteady`: what the access gets depends on what a TLB or an instruction cache holds.
     Unsteady,
 }
@@ -19,6 +21,7 @@ impl Mark {
     {
         match word {
             b"stale" => Some(Mark::Stale),
+            b"missed" => Some(Mark::Missed),
             b"unsteady" => Some(Mark::Unsteady),
             _ => None,
         }
@@ -30,6 +33,7 @@ impl Mark {
     {
         match self {
             Mark::Stale => b"stale",
+            Mark::Missed => b"missed",
             Mark::Unsteady => b"unsteady",
         }
     }

@@ -5,7 +5,7 @@ use Rattle.board_core.specs.History.{Event}
 use Rattle.condition_script.specs.declared.items.Item.{Item}
 use Rattle.condition_script.specs.declared.items.Item.TheVariants.{Word}
 use Rattle.condition_script.specs.declared.marks.Mark.{Mark}
-use Rattle.condition_script.specs.declared.marks.Mark.TheVariants.{Stale, Unsteady}
+use Rattle.condition_script.specs.declared.marks.Mark.TheVariants.{Missed, Stale, Unsteady}
 use Rattle.condition_script.specs.declared.names.Name.TheVariants as names
 use Rattle.condition_script.specs.declared.patterns.Pattern.{Pattern}
 use Rattle.condition_script.specs.declared.rules.Ending.{Ending}
@@ -19,6 +19,7 @@ use Rattle.conditions.specs.Rules.{IsNamedIn}
 -- whether an access has a mark
 abbrev pub told_mark : Mark → Marks → Bool
 told_mark Stale marks = marks.stale
+told_mark Missed marks = marks.missed
 told_mark Unsteady marks = marks.unsteady
 
 -- the mark that a word is

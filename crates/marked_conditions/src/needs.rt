@@ -101,7 +101,7 @@ fn could_have(mark: Mark, event: &Event) -> bool
     ensures { result ≡ could_have mark event.now }
 {
     match mark {
-        Mark::Stale => event.translation().is_some() || is_page_fault(event.reply()),
+        Mark::Stale | Mark::Missed => event.translation().is_some() || is_page_fault(event.reply()),
         Mark::Unsteady => {
             event.translation().is_some()
                 || (is_page_fault(event.reply())

@@ -39,6 +39,7 @@ pub(crate) fn told_mark(mark: Mark, marks: Marks) -> bool
 {
     match mark {
         Mark::Stale => marks.stale,
+        Mark::Missed => marks.missed,
         Mark::Unsteady => marks.unsteady,
     }
 }

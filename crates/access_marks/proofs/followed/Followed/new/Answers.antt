@@ -1,10 +1,14 @@
 use Rattle.std.proofs.Common.{[], List, sym, ap, subst, ◌∙◌, map}
+use Rattle.std.specs.List.{All}
+use Rattle.std.proofs.lemmas.List.Elements.{All-nil}
 use Rattle.board_core.specs.Course.{Course}
 use Rattle.board_core.specs.Opening.{opening_at}
 use Rattle.board_core.specs.Replies.{IsLegal}
 use Rattle.tlb_watch.specs.Tracked.{IsTracking, addresses_of, first_watch}
 use Rattle.tlb_watch.specs.Watched.{WatchedAddress}
 use Rattle.access_marks.specs.declared.words.WordNote.{WordNote}
+use Rattle.access_marks.specs.declared.use_watch.UseWatch.{UseWatch}
+use Rattle.access_marks.specs.Inside.Missing.{IsKept}
 use Rattle.access_marks.specs.Inside.Words.{AreNoted}
 use Rattle.access_marks.proofs.Following.{of-own}
 use Rattle.access_marks.proofs.Wording.{noted-first}
@@ -20,6 +24,7 @@ invariant_of-result c =
     let made = sym c.in-Ok.ensures.made.1 in (
       subst (λ (b : Course). IsTracking b.opening b.past (addresses_of c.in_ok-tracker.tracker) c.in_ok-tracker.tracker) made tracks,
       subst (λ (b : Course). AreNoted b.opening b.past c.new-2.result.items) made (subst (λ (notes : List WordNote). AreNoted (opening_at config) [] notes) (sym c.new-2.ensures.items) (noted-first config)),
+      subst (λ (b : Course). All (IsKept b.opening b.past) c.new-3.result.watches.items) made (subst (λ (l : List UseWatch). All (IsKept (opening_at config) []) l) (sym c.new-3.ensures) (All-nil (IsKept (opening_at config) []))),
     )
 
 pub returns-clause-made : goal.returns-clause-made

@@ -1,5 +1,7 @@
 use Rattle.std.proofs.Common.{◌≡◌, ℕ, ◌<◌, ◌∷◌, List, refl, sym, ap, subst, ◌∙◌}
 use Rattle.std.specs.List.{All}
+use Rattle.std.proofs.lemmas.List.Elements.{All-weaker}
+use Rattle.board_terms.specs.declared.config.Config.{Config}
 use Rattle.board_core.specs.Course.{Course}
 use Rattle.board_core.specs.History.{Event}
 use Rattle.any_tlb.specs.Effects.{effect_at}
@@ -10,6 +12,9 @@ use Rattle.tlb_watch.specs.Watched.{WatchedAddress}
 use Rattle.access_marks.specs.Inside.Accessed.{IsPresent}
 use Rattle.access_marks.specs.Inside.Changes.{SaysWritten}
 use Rattle.access_marks.specs.Inside.Following.{Following, IsNext}
+use Rattle.access_marks.specs.declared.use_watch.UseWatch.{UseWatch}
+use Rattle.access_marks.specs.Inside.Calls.{step_of}
+use Rattle.access_marks.specs.Inside.Missing.{IsKept, call_step}
 use Rattle.access_marks.specs.Inside.Words.{AreNoted}
 use Rattle.access_marks.proofs.Following.{all-there, of-own}
 use Rattle.access_marks.proofs.followed.Followed.step.Goals as goal
@@ -24,6 +29,14 @@ track-requires c =
     subst (λ (b : Course). All (λ (w : WatchedAddress). w.at.hart < b.opening.config.harts) c.self.inside.tracker) (sym grew)
     (all-there b.opening.config.harts c.self.inside.tracker c.self.invariant.0.present)
 
+pub happened-requires : goal.happened-requires
+happened-requires c =
+    let b = c.self.inside.board in
+    let grew = c.takes.ensures.after c.if-not-takes.false in
+    let watches = c.self.inside.uses.watches.items in
+    subst (λ (b : Course). All (λ (w : UseWatch). w.of.at.hart < b.opening.config.harts) watches) (sym grew)
+    (All-weaker (IsKept b.opening b.past) (λ (w : UseWatch). w.of.at.hart < b.opening.config.harts) (λ w kept. kept.present) watches c.self.invariant.2)
+
 pub invariant_of-result : goal.invariant_of-result
 invariant_of-result c =
     let b = c.self.inside.board in
@@ -37,9 +50,15 @@ invariant_of-result c =
     let notes = subst (λ (b : Course). (event : Event) (past : List Event) → b.past ≡ event ∷ past → SaysWritten b.opening past event c.written_by-word.result
     → ((h : ℕ) → effect_on c.effect_of-effect.result h ≡ effect_at b.opening past event h) → AreNoted b.opening past c.self.inside.notes.items → AreNoted b.opening (event ∷ past) c.note.new.notes.items)
     grew c.in_ok-note.ensures event b.past refl
-    (subst (λ (b : Course). SaysWritten b.opening b.past event c.written_by-word.result) c.view.ensures c.written_by-word.ensures) c.effect_of-effect.ensures c.self.invariant.1 in (
+    (subst (λ (b : Course). SaysWritten b.opening b.past event c.written_by-word.result) c.view.ensures c.written_by-word.ensures) c.effect_of-effect.ensures c.self.invariant.1 in
+    let step : c.of-call.result ≡ call_step b.opening event = c.of-call.ensures ∙ ap (λ (k : Config). step_of k event.actor event.op event.reply) c.config.ensures.config in
+    let watches = c.in_ok-uses.uses.watches.items in
+    let kept = subst (λ (b : Course). (event : Event) (past : List Event) → b.past ≡ event ∷ past → c.of-call.result ≡ call_step b.opening event
+    → All (IsKept b.opening past) c.self.inside.uses.watches.items → All (IsKept b.opening (event ∷ past)) watches)
+    grew c.in_ok-uses.ensures event b.past refl step c.self.invariant.2 in (
       subst (λ (b : Course). IsTracking b.opening b.past (addresses_of after) after) (sym grew) (of-own b.opening (event ∷ b.past) (addresses_of tracker) after tracks),
       subst (λ (b : Course). AreNoted b.opening b.past c.note.new.notes.items) (sym grew) notes,
+      subst (λ (b : Course). All (IsKept b.opening b.past) watches) (sym grew) kept,
     )
 
 pub returns-then-not-takes : goal.returns-then-not-takes
