@@ -308,7 +308,7 @@ def remove(path):
 
 # The minutes of a first build on four processors: of the program of `run`, of the tester behind it, and of the tester alone. On two
 # they are so many times as many.
-MINUTES, BEHIND, ALONE, ON_TWO = 20, 25, 42, 1.3
+MINUTES, BEHIND, ALONE, ON_TWO = 16, 25, 41, 1.6
 
 
 def takes(crate):
