@@ -354,6 +354,11 @@ class Xml(Made):
         must(f"{plain}", plain[1].startswith("TAP version 13\nnot ok 1 - a.trace (2 lines)\n") and plain == same)
         later = self.called("test", "--tap-version=14", "--tap", "points", "a.trace")
         must(f"{later}", later == (1, plain[1].replace("version 13", "version 14"), "") and read(os.path.join(self.room, "points")) == later[1])
+        # (the file of --tap stays as it is where nothing was tested: it may be a script)
+        self.put("points", "an older file\n")
+        for named, words in (("a.trace", ["a.trace"]), ("a.trace", ["./a.trace", "--json"])):
+            status, _, said = self.called("test", "--tap-version=14", "--tap", named, *words)
+            must(f"{named}: {said}", (status, read(os.path.join(self.room, named))) == (7, TRACE))
         status, out, said = self.called("test", "--tap-version", "12", "a.trace")
         must(f"{said}", (status, out) == (2, "") and said.startswith("error: invalid value '12' for '--tap-version <VERSION>'\n  [possible values: 13, 14]"))
 
@@ -486,6 +491,8 @@ class Explained(Made):
         must(f"{name}: {found}, and not {plain}", found[:2] == plain[:2])
         lines = found[2].splitlines()
         must(f"{lines}", all(it.startswith(f"{name}:") or it.startswith("sbiboard: ") for it in lines))
+        # (where a script's fault is told so, its number alone isn't)
+        must(f"{lines}", found[0] != 1 or len({it.startswith("sbiboard: ") for it in lines}) < 2)
         return [it[len(name) + 1 :] for it in lines if it.startswith(f"{name}:")]
 
     def test_explain__each_fault_is_told_for_what_it_is(self):

@@ -285,6 +285,10 @@ class TimelinesBeside(Test):
                 must(f"{step}: {twin}", twin == -1 if alone else done(twin, other).startswith(f"{step} -> "))
         same, _ = both(printed_by([TIMELINE, *[os.path.join(EXAMPLES, "timer.sched")] * 2])[0])
         must("the same twice", same["parting"] == len(same["courses"][0]["actors"]))
+        # (two answers part them as two steps do)
+        traces = [write(os.path.join(self.room, f"{at}.trace"), f"board 1 1 9 0 0x80000000 0\n0 advance -> entry 0x80000000 0 0x0\n0 sip -> value {at}\n0 wfi -> refused 3\n") for at in (0, 2)]
+        other, _ = both(printed_by([TIMELINE, *traces])[0])
+        must(f"two answers: {other['parting']}", other["parting"] == 1)
 
     def test_timelines__a_page_shows_the_board(self):
         """What a page shows behind a step: each hart, what is stale, why, and what the other course has there."""

@@ -5,13 +5,14 @@ import json
 import os
 import re
 import shutil
+import sys
 from urllib.parse import unquote
 
-from passing import Failing, NoOrder, near
+from passing import Failing, NoOrder, ends_well, near
 from program_model import Program
 
 from . import judge
-from .fixtures import EXAMPLES, PROGRAM, TESTER, Test, must, read, tester
+from .fixtures import EXAMPLES, PROGRAM, ROOT, TESTER, Test, must, read, tester
 from .test_timelines import Parts
 from .test_wrapper import clone, must_end, put, ran
 
@@ -192,6 +193,25 @@ class HtmlPages(Test):
         must_end((status, said), 7, "sbiboard: new/lost-wakeup.program.2.failed.html: File too large\n")
         must(f"{out}", "not ok 1 - lost-wakeup.program: line 2" in out and not os.listdir(os.path.join(self.work, "new")))
 
+    def test_html__points_without_a_plan(self):
+        """Where some points are told, and then no plan, no page is written, and it isn't said that these points are all."""
+        for told in ("not ok 1 - a.sched: line 1: x", "ok 1 - a.sched: line 1: x"):
+            for status in (0, 1, 7):
+                put(os.path.join(self.room, "clone/crates/sbiboard_test/out/sbiboard_test"), f'#!/bin/bash\nwhile [ "$1" != --tap ]; do shift; done\nprintf "TAP version 13\\n{told}\\n" > "$2"\nexit {status}\n')
+                must_end(self.called("test", "--html", "pages", "a.sched"), status, "", "sbiboard: not all points were told, so no page is written\n")
+        must("a page was written", not os.path.exists(os.path.join(self.work, "pages")))
+
+    def test_html__orders_are_judged_by_the_program(self):
+        """An order near the one that fails is judged by the program: which conditions its trace breaks. One with which the board doesn't agree passes in no way, nor does one that can't be read."""
+        sys.path.insert(0, os.path.join(ROOT, "tools/front"))
+        from html_pages import Pages
+
+        asked = "#! never 0 sip\n#! each 0 advance -> entry _ 0 _\n#! some 0 wfi\n"
+        trace = asked + "board 1 1 9 0 0x80000000 0\n0 advance -> entry 0x80000000 0 0x0\n{}0 sie 2 -> done\n"
+        rows = (("", {2}), ("0 sip -> value 0\n", {0, 2}), ("0 sip -> value 2\n", None), ("0 sie 2 -> value 0\n", None), ("0 sie 2 -> don\n", None), ("0 ecall 0x735049 0 1 0 -> ret 0 0\n0 sie 2 -> done\n0 wfi -> done\n", set()))
+        found = Pages(TESTER, self.work).judge([trace.format(it) for it, _ in rows])
+        must(f"{found}", found == [it for _, it in rows])
+
     def test_html__older_points(self):
         """A file of points that this run hasn't written isn't taken for its own."""
         put(os.path.join(self.work, "points"), "not ok 1 - a.sched: line 1: x\n1..1\n")
@@ -285,6 +305,9 @@ class NearOrders(Test):
         must("the first that is good", found is not None and found.trace(failing.board_line, ["#! never 0 wfi"]) == asked[1])
         with self.assertRaises(NoOrder):
             Failing(text, record + "\n0 wfi -> done", 0)
+        must("ends", ends_well("#! end off", "history-full") and ends_well("#! maybe end off quiet # so", "quiet") and not ends_well("#! end off", "quiet") and not ends_well("#! end off", "stuck"))
+        must("without conditions", ends_well(None, "off") and ends_well(None, "quiet") and ends_well(None, "history-full") and not ends_well(None, "stuck"))
+        must("ways out", ends_well("#! can end", "stuck") and ends_well("#! can end quiet", "quiet") and not ends_well("#! can end", "history-full") and not ends_well("#! maybe can end off quiet", "stuck"))
         must("none is good", near(failing, ["#! never 0 wfi"], "#! never 0 wfi", lambda traces: [{0} for _ in traces]) is None)
 
     def test_html__an_order_that_can_end_is_near(self):

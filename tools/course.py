@@ -97,7 +97,7 @@ class Course:
         self.board, self.harts = board, len(board.harts)
         self.segments = [[] for _ in range(self.harts)]
         self.arrows, self.resets, self.stale, self.other, self.times, self.actors, self.texts, self.answers = [], [], [], [], [], [], [], []
-        # Each step as it is done, without the answer.
+        # Each step as it is done, without the answer; the answers are those that are shown.
         self.done = [spelled_step(*step[:2]) for step in steps]
         self.clock, self.off = [], None
         self.holdings = Holdings(board)
@@ -127,9 +127,9 @@ class Course:
         self.holdings.take(place, op[0] == "tick")
         self.clock.append(board.time)
         self.actors.append(-1 if actor is None else actor)
-        self.answers.append(answer)
         is_other = said is not None and said != answer
-        text = f"{spelled_step(actor, op)} -> {spelled_answer(said if is_other else answer)}"
+        self.answers.append(said if is_other else answer)
+        text = f"{spelled_step(actor, op)} -> {spelled_answer(self.answers[-1])}"
         if is_other:
             self.other.append(place)
             text += f"   (here {spelled_answer(answer)})"
