@@ -14,6 +14,11 @@ SET_TIMER, SEND_IPI, LATE = 0, 4, 10_000_000
 STIMECMP = Verdict(UNJUDGED, "a deadline that the kernel may have changed by stimecmp", "6.1")
 
 
+def may_be_interrupted(call):
+    """Whether a handler may have run before the return was seen: it may have cleared what was pending."""
+    return call.notes.get("sstatus", 0) & 1 and call.notes.get("sie", SEI) & (READ_SIE | SEI)
+
+
 class Registers:
     """A record's lines, those of each hart, and what may have sent an IPI to it."""
 
@@ -52,12 +57,12 @@ class Registers:
         for call, ret in self.returned(hart):
             for name, bits in (("sie", READ_SIE), ("sstatus", 1), ("sip", SSI)):
                 was, now = (line.notes.get(name) for line in (call, ret))
-                if was is None or now is None or name == "sip" and (now & SSI or call.numbers[0] in LEGACY):
+                if was is None or now is None or name == "sip" and (now & SSI or call.numbers[0] in LEGACY) or name != "sstatus" and may_be_interrupted(call):
                     continue
                 if (was ^ now) & bits:
                     yield self.told(call, name, was & bits, now & bits, verdict_of("registers"))
-            was, now = (line.notes.get("sip", 0) for line in (call, ret))
-            if was & STI and "sip" in ret.notes and not now & STI and call.numbers[0] not in (TIME, SET_TIMER):
+            was, now = call.notes.get("sip", 0) & STI, ret.notes.get("sip", STI) & STI
+            if was and not now and call.numbers[0] not in (TIME, SET_TIMER) and not may_be_interrupted(call):
                 yield self.told(call, "STIP", 1, 0, verdict_of("timers"))
 
     # ---- timers
@@ -126,7 +131,7 @@ class Registers:
         """Suspends that return with nothing pending, though an IPI to their hart has begun and succeeded meanwhile. A fence may have
         woken the hart just before the IPI came."""
         for call, ret in self.returned(hart):
-            if not is_suspend(call.numbers) or ret.numbers[0] != 0 or ret.notes.get("sip", SSI) & (READ_SIE | SEI):
+            if not is_suspend(call.numbers) or may_be_interrupted(call) or ret.numbers[0] != 0 or ret.notes.get("sip", SSI) & (READ_SIE | SEI):
                 continue
             named = [*self.meanwhile(hart, call)]
             ipis = [line for line, is_behind in named if is_behind and line.numbers[:2] == (IPI, 0) and self.has_succeeded(line, call.reply)]
