@@ -516,8 +516,8 @@ class Explained(Made):
         must(f"{told}", [int(it.split(":")[0]) for it in told] == [*range(2, 22)])
         told = self.told("replay", "a.sched", BOARD + "0 sip\n" + "0 sip -> done\n" * 30 + "0 fly\n")
         must(f"{told}", [it.split(":")[0] for it in told] == ["3", "33"] and told[0].endswith(" (also 29 more lines, from line 4 on)"))
-        told = self.told("check", OF_TRACE, BOARD + "0 sipp -> done\n0 sip -> done\nhart0 sip\n0 wfi\n1 wfi\nhart1 sip -> done\n")
-        must(f"{told}", [it.split(":")[0] for it in told] == ["2", "4", "5"] and told[1].endswith(": did you mean '0'? (also line 7)") and told[2].endswith("as in a trace (also line 6)"))
+        told = self.told("check", OF_TRACE, BOARD + "0 sipp -> done\n0 wfi\n0 sip -> done\nhart0 sip\n1 wfi\nhart1 sip -> done\n")
+        must(f"{told}", [it.split(":")[0] for it in told] == ["2", "3", "5"] and told[1].endswith("as in a trace (also line 6)") and told[2].endswith(": did you mean '0'? (also line 7)"))
         must("BOOTADDR", self.told("replay", "a.sched", "board 1 1 9 0 80000000 0\n0 sip\n") == ["1:15: bad board: BOOTADDR is 0x4c4b400, not an even address of the RAM: did you mean '0x80000000'?"])
         for name, text in ((SCHEDULE, ""), (OF_TRACE, "# none\n"), (SCHEDULE, "0 advance\n")):
             told = self.told(TASK[name], name, text)
