@@ -1,5 +1,6 @@
 """How every tool begins and ends: it answers --help, and exits quietly if its output's reader is gone."""
 import os
+import re
 import select
 import signal
 import sys
@@ -8,6 +9,16 @@ import sys
 def usage_of(doc):
     """The usage in a tool's text, for its parser of words."""
     return doc.partition("usage: ")[2].partition("\n\n")[0]
+
+
+def as_ascii(text):
+    """A text for a line of a trace or a record, which are ASCII: any other character is `?`."""
+    return re.sub(r"[^\t -~]", "?", text)
+
+
+def title_of(path):
+    """The name of a file for a page: bytes that are no UTF-8 are shown as such."""
+    return os.path.basename(os.fsencode(path)).decode("utf-8", "replace")
 
 
 def run(main, doc):
