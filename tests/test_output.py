@@ -495,11 +495,11 @@ class Explained(Made):
         return [it[len(name) + 1 :] for it in lines if it.startswith(f"{name}:")]
 
     def test_explain__each_fault_is_told_for_what_it_is(self):
-        """Each wrong line is told with its line and column and what may be meant, by its own task and by `test`; the line beside it isn't, nor is a right script."""
-        for name, wrong, column, meant in WRONG:
+        """Each wrong line is told with its line and column and what may be meant, by its own task or by `test`, and every fifth by both; the line beside it isn't, nor is a right script."""
+        for place, (name, wrong, column, meant) in enumerate(WRONG):
             text = f"{BOARD}{RIGHT[name]}\n{wrong}\n"
-            at = text.count("\n")
-            for task in (TASK[name], "test"):
+            at, tasks = text.count("\n"), (TASK[name], "test")
+            for task in tasks if place % 5 == 0 else tasks[place % 2 :][:1]:
                 told = self.told(task, name, text)
                 must(f"{task} {wrong!r}: {told}", len(told) == 1 and told[0].startswith(f"{at}:{column}: ") and meant in told[0])
         told = self.told("test", PROGRAMS, f"{BOARD}{RIGHT[PROGRAMS]}\n#! never 1 sip -> refused 3\n")
