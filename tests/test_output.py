@@ -13,6 +13,7 @@ import time
 from unittest import SkipTest
 from xml.etree import ElementTree
 
+import board_model
 from board_model import START_PENDING, STATES, spelled_answer, spelled_step
 
 from . import all_orders, grammar
@@ -62,7 +63,12 @@ WRONG = (
     (SCHEDULE, "0 sip => value 0", 7, "(fault 5): the arrow is '->', between blanks"), (SCHEDULE, "0 sip->value", 3, "(fault 3): the arrow is '->', between blanks"), *((PROGRAMS, line, 1, "an operation of a program has no actor") for line in ("0 sip", "c tick 1", "0 sip -> done", "cut")),
     *((name, line, 1, f"a block is of a program, and this script begins with a step, as a {kind} does") for name, kind in ((SCHEDULE, "schedule"), (OF_TRACE, "trace")) for line in ("at 0x80000000", "clock")), (SCHEDULE, "0 cut", 3, "a cut stands alone, without an actor"),
     (SCHEDULE, "0 sip 1", 7, "it is 'sip'"), (SCHEDULE, "cut 1", 5, "it is 'cut'"), (SCHEDULE, "0 ecall 1", 10, "it is 'ecall EID FID [A0 .. A5]'"), (OF_TRACE, "0 sip 1 -> done", 7, "it is 'sip'"), (OF_TRACE, "0 sip -> done 1", 15, "it is 'done'"), (OF_TRACE, "0 poll -> ret 0", 16, "it is 'ret ERROR VALUE'"),
-    (PROGRAMS, "at", 3, "it is 'at ADDR'"), (PROGRAMS, "clock 1", 7, "it is 'clock'"), (PROGRAMS, "store 1", 8, "it is 'store VA VALUE'"), (PROGRAMS, "amocas 1 2", 11, "it is 'amocas VA OLD NEW'"), (SCHEDULE, "0 sip # \u00e4", 9, "a script is ASCII, its comments too"),
+    *((PROGRAMS, f"#! {asked}", column, meant) for asked, column, meant in (
+        ("before 1 serve 1 load", 19, "too few or too many words: '1': it is 'before PATTERN , PATTERN'"), ("each 1 load", 15, "it is 'each STEP -> REPLY'"), ("maybe each 1 load", 21, "it is 'each STEP -> REPLY'"), ("end", 7, "it is 'end END ..'"), ("never 1 sip after", 21, "it is 'never PATTERN [after PATTERN]'"),
+        ("always 1 sip", 4, "a condition begins with never, some, each, before, end, can end or steady"), ("can quiet", 8, "did you mean 'can end quiet'?"), ("can end history-full", 12, "a limit ends no order"), ("never stael", 10, "did you mean 'stale'?"), ("never hart1 load", 10, "did you mean '1'?"),
+        ("never C tick 1", 10, "did you mean 'c'?"), ("never 1 load => value 1", 17, "the arrow is '->', between blanks"), ("never 1 load 0X10", 17, "did you mean '0x10'?"), ("never 1 ecall HSM 0", 18, "did you mean '0x48534d', the id of HSM?"),
+        ("never 1 load 80002000 -> value 1", 17, "80002000 is decimal, 0x4c4bbd0, and in no page of the RAM: did you mean '0x80002000'?"), ("before 1 load 80002000, 1 sip", 18, "did you mean '0x80002000'?"),
+    )), (SCHEDULE, "0 ecall RFENCE 1", 9, "did you mean '0x52464e43', the id of RFENCE?"), (PROGRAMS, "at", 3, "it is 'at ADDR'"), (PROGRAMS, "clock 1", 7, "it is 'clock'"), (PROGRAMS, "store 1", 8, "it is 'store VA VALUE'"), (PROGRAMS, "amocas 1 2", 11, "it is 'amocas VA OLD NEW'"), (SCHEDULE, "0 sip # \u00e4", 9, "a script is ASCII, its comments too"),
 )  # fmt: skip
 # A line without a fault, of each kind.
 RIGHT = {SCHEDULE: "0 sip", OF_TRACE: "0 sip -> value 0x0", PROGRAMS: "at 0x80000000\nsip"}
@@ -496,14 +502,16 @@ class Explained(Made):
         return [it[len(name) + 1 :] for it in lines if it.startswith(f"{name}:")]
 
     def test_explain__each_fault_is_told_for_what_it_is(self):
-        """Each wrong line is told with its line and column and what may be meant, by its own task and by `test`; the line beside it isn't, nor is a right script."""
-        for name, wrong, column, meant in WRONG:
+        """Each wrong line is told with its line and column and what may be meant, by its own task or by `test`, and every fifth by both; the line beside it isn't, nor is a right script."""
+        for place, (name, wrong, column, meant) in enumerate(WRONG):
             text = f"{BOARD}{RIGHT[name]}\n{wrong}\n"
-            at = text.count("\n")
-            for task in (TASK[name], "test"):
+            at, tasks = text.count("\n"), (TASK[name], "test")
+            for task in tasks if place % 5 == 0 else tasks[place % 2 :][:1]:
                 told = self.told(task, name, text)
                 must(f"{task} {wrong!r}: {told}", len(told) == 1 and told[0].startswith(f"{at}:{column}: ") and meant in told[0])
-        for name, text in (*RIGHT.items(), (SCHEDULE, "\n".join(GOOD))):
+        told = self.told("test", PROGRAMS, f"{BOARD}{RIGHT[PROGRAMS]}\n#! never 1 sip -> refused 3\n")
+        must(f"{told}", told == ["4:19: no accepted step is refused: 'refused'"])
+        for name, text in (*RIGHT.items(), (SCHEDULE, "\n".join(GOOD)), (PROGRAMS, "#! maybe never 0 load 0x80002000 -> value 80002000\nat 0x80000000\nsip")):
             for task in (TASK[name], "test"):
                 must(f"{task} {name} {text}", self.told(task, name, f"{BOARD}{text}\n") == [])
 
@@ -515,8 +523,8 @@ class Explained(Made):
         must(f"{told}", [int(it.split(":")[0]) for it in told] == [*range(2, 22)])
         told = self.told("replay", "a.sched", BOARD + "0 sip\n" + "0 sip -> done\n" * 30 + "0 fly\n")
         must(f"{told}", [it.split(":")[0] for it in told] == ["3", "33"] and told[0].endswith(" (also 29 more lines, from line 4 on)"))
-        told = self.told("check", OF_TRACE, BOARD + "0 sipp -> done\n0 sip -> done\nhart0 sip\n0 wfi\n1 wfi\nhart1 sip -> done\n")
-        must(f"{told}", [it.split(":")[0] for it in told] == ["2", "4", "5"] and told[1].endswith(": did you mean '0'? (also line 7)") and told[2].endswith("as in a trace (also line 6)"))
+        told = self.told("check", OF_TRACE, BOARD + "0 sipp -> done\n0 wfi\n0 sip -> done\nhart0 sip\n1 wfi\nhart1 sip -> done\n")
+        must(f"{told}", [it.split(":")[0] for it in told] == ["2", "3", "5"] and told[1].endswith("as in a trace (also line 6)") and told[2].endswith(": did you mean '0'? (also line 7)"))
         must("BOOTADDR", self.told("replay", "a.sched", "board 1 1 9 0 80000000 0\n0 sip\n") == ["1:15: bad board: BOOTADDR is 0x4c4b400, not an even address of the RAM: did you mean '0x80000000'?"])
         for name, text in ((SCHEDULE, ""), (OF_TRACE, "# none\n"), (SCHEDULE, "0 advance\n")):
             told = self.told(TASK[name], name, text)
@@ -587,9 +595,12 @@ class Tables(Test):
     def test_the_words_of_scripts_stand_once(self):
         """The words that are meant are those of the page of formats, as the tests' own reader has them."""
         sys.path.insert(0, os.path.join(ROOT, "tools/front"))
-        from kinds import ENDS, OPERATIONS, REPLIES, RULES
+        from explain import CONDITIONS, EXTENSIONS
+        from kinds import ENDS, MARKS, OPERATIONS, REPLIES, RULES
 
         from . import test_editors
 
         must(f"{OPERATIONS}", OPERATIONS == grammar.COUNTS and REPLIES == grammar.REPLIES)
-        must(f"{RULES} {ENDS}", set(RULES) == test_editors.RULES | {"after", "maybe"} and set(ENDS) == test_editors.ENDS)
+        must(f"{RULES} {ENDS}", set(RULES) == test_editors.RULES | {"after", "maybe"} and set(ENDS) == test_editors.ENDS and set(MARKS) == test_editors.MARKS)
+        must(f"{CONDITIONS}", set(CONDITIONS) == test_editors.RULES)
+        must(f"{EXTENSIONS}", {int(it, 16): getattr(board_model, name) for name, it in EXTENSIONS.items()} == {it: it for it in board_model.EXTENSIONS})

@@ -90,6 +90,23 @@ class ToTraceOptions(Test):
             board = next(line for line in trace.splitlines() if line.startswith("board "))
             must(f"{calls}: {board}", int(board.split()[3]) == calls + 1 == trace.count(" -> "))
 
+    def test_names_and_comments_that_are_not_ascii(self):
+        """A trace is ASCII, whatever its record is called and its conditions' comments say; a page shows the name."""
+        text = ENTRY + CALL.format("0x10 0", 0, 0x1000000)
+        asks = os.path.join(self.room, "asks")
+        with open(asks, "wb") as file:
+            file.write(b"#! some _ ecall BASE 0  # na\xc3\xafve \xff\n")
+        for name, shown in (("\u00e9 r.record", "\u00e9 r.record"), ("b\udcefd.record", "b\ufffdd.record")):
+            path, out = write(os.path.join(self.room, name), text), os.path.join(self.room, "out")
+            trace, _ = printed_by([TO_TRACE, "--conditions", asks, path])
+            must(f"{trace}", trace.startswith(f"# of the record {re.sub('[^ -~]', '?', name)}\n#! some _ ecall 0x10 0  # na"))
+            checked(self.room, trace.encode("ascii"), 0, b"agrees 2\n", b"")
+            printed_by([TO_TRACE, "--conditions", asks, "--out", out, path])
+            must("another trace", read(out) == trace)
+            for words in ([os.path.join(os.path.dirname(TO_TRACE), "timeline"), path], [os.path.join(os.path.dirname(TO_TRACE), "record-stats"), "--page", out, path]):
+                printed, _ = printed_by(words)
+                must(f"{words}: {printed[:300]}", f"<title>{shown}" in (printed if words[1] == path else read(out)))
+
     def test_rules_of_hart_lists(self):
         """A hart list that is refused here, and was accepted there, is told by its own rule."""
         for mask, base, sentence in LISTS:

@@ -1,6 +1,7 @@
 """How every tool begins and ends: it answers --help, and exits quietly if its output's reader is gone."""
 import argparse
 import os
+import re
 import select
 import signal
 import sys
@@ -16,6 +17,16 @@ def path(word):
     if not word:
         raise argparse.ArgumentTypeError("a name is wanted, and it is empty")
     return word
+
+
+def as_ascii(text):
+    """A text for a line of a trace or a record, which are ASCII: any other character is `?`."""
+    return re.sub(r"[^\t -~]", "?", text)
+
+
+def title_of(path):
+    """The name of a file for a page: bytes that are no UTF-8 are shown as such."""
+    return os.path.basename(os.fsencode(path)).decode("utf-8", "replace")
 
 
 def run(main, doc):

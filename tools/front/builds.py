@@ -1,5 +1,6 @@
 """Proves and builds a program: the crates that it is made of, lowest first, two side by side where neither stands on the other."""
 import contextlib
+import ctypes
 import os
 import shutil
 import signal
@@ -16,6 +17,8 @@ PARTS = ("src", "specs", "proofs")
 FEW = 4
 # For so many seconds at most what was ended is waited for.
 MOMENT = 2
+# Linux's call for a signal that a process gets once its parent has ended, and its number there.
+PRCTL, ON_PARENTS_END = getattr(ctypes.CDLL(None), "prctl", None), 1
 # The most processors that the toolchain is asked to use.
 MOST_JOBS = 4
 
@@ -139,7 +142,7 @@ class Lane:
     def begin(self, name, words):
         with open(self.log, "wb") as said:
             # (a session of its own, so that it can be ended with all that it starts)
-            how = {"stdin": subprocess.DEVNULL, "stdout": said, "stderr": subprocess.STDOUT, "start_new_session": True}
+            how = {"stdin": subprocess.DEVNULL, "stdout": said, "stderr": subprocess.STDOUT, "start_new_session": True, "preexec_fn": end_with_parent}
             with unbroken():
                 self.run = subprocess.Popen(words, cwd=os.path.join(self.root, "crates", name), **how)
         self.name = name
@@ -164,6 +167,12 @@ def unbroken():
             signal.signal(it, handler)
         if came:
             handlers[came[0][0]](*came[0])
+
+
+def end_with_parent():
+    """Has this process end with its parent, which can't see to that where it is killed."""
+    if PRCTL:
+        PRCTL(ON_PARENTS_END, signal.SIGTERM)
 
 
 def end_group(run):

@@ -8,7 +8,7 @@ import tempfile
 
 from builds import program_of
 from commands import OF_PROGRAM, TESTER, constant
-from kinds import ENDS, FIRMWARE_WORDS, OPERATIONS, REPLIES, RULES, UNALLOWED, kind_of_text, lines_of
+from kinds import ENDS, FIRMWARE_WORDS, MARKS, OPERATIONS, REPLIES, RULES, UNALLOWED, kind_of_text, lines_of
 from points import Point, read_points
 
 # So many faults are told at most, and a file is read so often.
@@ -29,6 +29,12 @@ FORMS = {
     **{it: f"{it} VA VALUE" for it, counts in OPERATIONS.items() if counts == (2, 2) and it != "sfence"},
     "ret": "ret ERROR VALUE", "entry": "entry ADDR HART OPAQUE", "value": "value V", "fault": "fault CAUSE", "moved": "moved S", "refused": "refused N",
 }  # fmt: skip
+# How each condition is written.
+CONDITIONS = {
+    "never": "never PATTERN [after PATTERN]", "some": "some PATTERN", "each": "each STEP -> REPLY", "before": "before PATTERN , PATTERN", "end": "end END ..", "can": "can end [WAY ..]", "steady": "steady [STEP]",
+}  # fmt: skip
+# The names of extensions, whose ids scripts have.
+EXTENSIONS = {"BASE": "0x10", "TIME": "0x54494d45", "IPI": "0x735049", "RFENCE": "0x52464e43", "HSM": "0x48534d", "SRST": "0x53525354"}
 # What each operation that reads answers, for an answer without its word.
 ANSWERS = {"load": "value", "fetch": "value", "sip": "value", "advance": "moved", "ecall": "ret 0"}
 
@@ -186,17 +192,17 @@ def likeness(word, other):
 
 def alike(word, words):
     """The words that are most like this one: a second one if it is nearly as much so, and no longer form of the first."""
-    word = word.lower()
+    given, word = word, word.lower()
     found = [word] if word in words else difflib.get_close_matches(word, words, n=2, cutoff=0.6)
     found = found[:1] + [it for it in found[1:] if likeness(word, it) > likeness(word, found[0]) - 0.1 and not it.startswith(found[0])]
-    return f"did you mean {' or '.join(repr(it) for it in found)}?" if found else ""
+    return f"did you mean {' or '.join(repr(it) for it in found)}?" if found and found != [given] else ""
 
 
 def hint(fault, row):
     """What may be meant where a line has a fault, or nothing."""
     words = [word for _, word in words_of(row)]
     if fault.fault is None:
-        return of_board(fault, words) if fault.what.startswith("bad board") else alike(fault.word, [*RULES, *ENDS, *OPERATIONS, *REPLIES])
+        return of_board(fault, words) if fault.what.startswith("bad board") else of_condition(fault, condition_words(row))
     if fault.fault == BAD_BYTE:
         return of_byte(row[fault.column - 1 :])
     if fault.fault == UNKNOWN:
@@ -216,6 +222,28 @@ def of_byte(rest):
     if rest[:2] in (b"\xff\xfe", b"\xfe\xff") or rest[:1] == b"\0":
         return "the file is UTF-16: save it as ASCII"
     return "a blank that only looks like one: write a plain one" if rest.startswith(b"\xc2\xa0") else "a script is ASCII, its comments too"
+
+
+def condition_words(row):
+    """The words of a condition, without `maybe`."""
+    words = row.partition(b"#!")[2].partition(b"#")[0].decode("latin-1").replace(",", " , ").split()
+    return words[words[:1] == ["maybe"] :]
+
+
+def of_condition(fault, words):
+    """Of a fault of a condition, which has no number."""
+    what, word = fault.what.partition(":")[0], fault.word
+    if what == "unknown condition":
+        return alike(word, [*RULES]) or "a condition begins with never, some, each, before, end, can end or steady"
+    if what in ("too few or too many words", "no comma") and words and words[0] in CONDITIONS:
+        return f"it is '{CONDITIONS[words[0]]}'"
+    if has_other_arrow([word]):
+        return ARROW
+    if what == "not a number":
+        return words[1:2] == [word] and of_actor(word) or of_number(word, False) or alike(word, [*OPERATIONS, *REPLIES, *MARKS])
+    if words[:1] == ["can"] and word in ENDS:
+        return "a limit ends no order" if word == "history-full" else f"did you mean 'can end {word}'?"
+    return alike(word, [*RULES, *ENDS, *OPERATIONS, *REPLIES, *MARKS])
 
 
 def of_name(fault, words):
@@ -240,8 +268,10 @@ def of_name(fault, words):
 
 
 def of_number(word, is_actor):
+    if word in EXTENSIONS:
+        return f"did you mean '{EXTENSIONS[word]}', the id of {word}?"
     if is_actor:
-        return "an actor is c, or the number of a hart: at most 127"
+        return of_actor(word) or "an actor is c, or the number of a hart: at most 127"
     if word.startswith("0X"):
         return f"did you mean '0x{word[2:]}'?"
     if re.fullmatch(r"[+\d][\d_]*", word) and not word.isdigit():
@@ -312,13 +342,22 @@ def notes(text):
     if not rows or rows[0][1][0][1] != "board" or not all(is_number(word) for _, word in rows[0][1][1:]) or len(rows[0][1]) < 7:
         return
     harts, pages = (int(word, 0 if "x" in word else 10) for _, word in rows[0][1][1:3])
+    for line, row in enumerate(lines_of(text), 1):
+        head, _, asked = row.partition(b"#!")
+        for found in re.finditer(rb"[^ \t,]+", asked.partition(b"#")[0].partition(b"->")[0] if not head.strip() else b""):
+            if is_hex_in_ram(found[0].decode("latin-1"), pages):
+                yield line, len(head) + found.start() + 3, said_of_decimal(found[0].decode("latin-1"))
     for line, words in rows[1:]:
         column, actor = words[0]
         if is_number(actor) and harts <= int(actor, 0 if "x" in actor else 10) <= 127:
             yield line, column, f"the board has no hart {actor}: its harts are 0 to {harts - 1}"
         for column, word in words[1:]:
             if is_hex_in_ram(word, pages) and not any(it == "tick" for _, it in words):
-                yield line, column, f"{word} is decimal, {int(word):#x}, and in no page of the RAM: did you mean '0x{word}'?"
+                yield line, column, said_of_decimal(word)
+
+
+def said_of_decimal(word):
+    return f"{word} is decimal, {int(word):#x}, and in no page of the RAM: did you mean '0x{word}'?"
 
 
 # ---- the whole
