@@ -34,6 +34,7 @@ VACUOUS = (
     ("never 1 load 0x80005008 -> value 1", "1 load 0x80005008", HINT), ("never 1 load 0x80005008 -> value 1 after 0 store", "1 load 0x80005008", HINT),
     ("each 1 load 0x80005008 -> value 1", "1 load 0x80005008", HINT), ("some 1 load 0x80005008 -> value 1", "1 load 0x80005008", HINT),
     ("before 1 load 0x80005008, 0 store", "1 load 0x80005008", HINT), ("before 0 store, 1 load 0x80005008", "1 load 0x80005008", HINT),
+    ("before 0 store -> done, 1 load 0x80005008", "1 load 0x80005008", HINT), ("before 0 store -> done, 1 load 0x80005008 -> value 1", "1 load 0x80005008", HINT),
     ("before 0 store, 1 load 0x80005008 -> value 1", "1 load 0x80005008", HINT), ("before 0 store , 1 load 0x80005008 -> value 1", "1 load 0x80005008", HINT), ("never 1 wfi -> done", "1 wfi", ""), ("never 1 poll -> ret 0 _", "1 poll", ""),
     ("never 1 load after 0 store 0x80002000 2", "0 store 0x80002000 2", "; hart 0 stores 0x80002000 0x1 (line 5)"),
     ("never 1 load after 0 ecall 0x48534d -> ret -3", "0 ecall 0x48534d -> ret -3", "; such a step has another reply"), ("never 0 sip after 1 wfi", "1 wfi", ""),

@@ -202,6 +202,14 @@ class Marks(Test):
         place = next(it.split()[1] for it in lines if it.startswith("  place: "))
         must(f"{lines}", status == 1 and f"    {place} 2 load 0x1000 -> value 0x11" in lines and lines.count(f"    {place} 2 load 0x1000 -> value 0x11") == 1)
 
+    def test_a_failing_schedule_is_kept(self):
+        """The record of a schedule or a trace that has a mark tells the first access that has it, which is no step that a condition without marks would name."""
+        steps = [it for it in FORGOTTEN.splitlines()[1:] if it]
+        last, many = len(steps) - 1, FORGOTTEN.count("2 load 0x1000")
+        for asked, place in (("never 2 load -> stale", last), ("steady 2 load", last), ("never _ load -> stale after 0 poll", last), ("each 2 load -> stale", steps.index("2 load 0x1000")), ("before 2 load -> stale, 2 load", steps.index("2 load 0x1000"))):
+            status, lines = told(self.room, f"#! {asked}\n{FORGOTTEN}", name="a.sched")
+            must(f"{asked}: {lines}", many == 2 and status == 1 and f"  place: {place}" in lines and sum(it.startswith(f"    {place} 2 load 0x1000 -> value ") for it in lines) == 1)
+
     def test_programs_of_few_states(self):
         """Where a condition asks of marks, orders are tried, though the states are few."""
         status, found, lines = in_way(self.room, ("sbiboard", ()), "#! steady\nboard 1 2 9 0 0x80000000 0\nat 0x80000000\nfetch 0x80001000\n")

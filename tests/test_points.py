@@ -251,6 +251,28 @@ load {}
 """
 
 
+# A hart's stale access, and behind it accesses of a hart that is inside its call, and is refused each.
+REFUSED_BEHIND = """\
+board 2 6 100 0 0x80000000 0
+0 advance
+0 ecall 0x48534d 0 1 0x80000000 0
+1 advance
+0 store 0x80001000 0x20000801
+0 store 0x80002000 0x20000c01
+0 store 0x80003008 0x200010c7
+1 satp 0x8000000000080001
+1 load 0x1000
+0 store 0x80003008 0x200014c7
+0 ecall 0x52464e43 1 0x2 0 0x1000 0x1000
+1 load 0x1000
+0 load 0x1000
+0 store 0x1000 5
+0 fetch 0x80004000
+1 load 0x1000
+0 amoadd 0x80003008 1
+"""
+
+
 class Points(Test):
     programs = (PROGRAM, TESTER)
 
@@ -322,7 +344,7 @@ class Points(Test):
 
     def test_stale_accesses_are_those_of_the_model(self):
         """Of random schedules exactly those accesses are told as stale, and for the reason, that the model says, of lines of all numbers."""
-        texts = [UNMAPPED.format(leaf) for leaf in ("0", "0x20000043", "0x200000c7", "0x20000443", "0x2000004b")] + [random_steps(seed) for seed in range(60)]
+        texts = [UNMAPPED.format(leaf) for leaf in ("0", "0x20000043", "0x200000c7", "0x20000443", "0x2000004b")] + [random_steps(seed) for seed in range(60)] + [REFUSED_BEHIND]
         seen = []
         for at, text in enumerate(texts):
             write(os.path.join(self.room, f"{at}.sched"), text)
@@ -351,6 +373,8 @@ class Points(Test):
                 is_good = least <= number <= most
                 wanted = "ok 1 - a.sched: no order ends stuck: holds in 1 orders of unknown many, seed 0" if is_good else f"not ok 1 - a.sched: bad board: {name} is {number}, {above if number > most else under}"
                 must(f"{name} {number}: {lines}", lines[1] == wanted)
+        _, lines = told(self.room, "board 1 2 9 1 0x80000000 0\n", name="a.sched")
+        must(f"one hart: {lines}", lines[1] == "not ok 1 - a.sched: bad board: BOOTHART is 1, at most 0")
 
     def test_files_of_all_lengths_are_tested(self):
         """A file of 16,777,216 bytes is tested, conditions at its end and all; with a byte more it is a point that fails."""
