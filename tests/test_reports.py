@@ -175,6 +175,8 @@ WRONG = [
       for what, made in (("stop", DOZES.replace(" 3 0 ", " 1 0 ")), ("suspend", DOZES))),
     ("a shutdown behind which another hart goes on for long", TWO + call(SRST, 0, 0)[:-1] + " time=50\n" + at(LONG + 50, hart=1) + "1 ret 0 0x1000000\nm end limit\n", "return", 6),
     *((f"a {what} reboot that switches the machine off", TWO + call(SRST, 0, kind) + "m end off\n", "enter", 6) for what, kind in (("cold", 1), ("warm", 2))),
+    *((f"a {what} of a hart that hasn't entered since a reboot", TWO + call(SRST, 0, 1) + "0 entry 0x80200000 0 0x87e00000\n" + made, UNEXPLAINED, 8)
+      for what, made in (("fence", answered(RFENCE, 0, 1, hart=1)), ("reset", call(SRST, 0, 1, hart=1) + "0 entry 0x80200000 0 0x87e00000\n"), ("stop", call(HSM, 1, hart=1)))),
     ("a shutdown that reboots", TWO + call(SRST, 0, 0) + "0 entry 0x80200000 0 0x87e00000\n", UNEXPLAINED, 7),
     ("a list that is refused, by a hart whose stop was", TWO + answered(HSM, 1, hart=1, ret="-1 0") + answered(IPI, 0, 3, ret="-3 0", hart=1), "breaks", 8),
     ("a state behind a stop that was refused", TWO + answered(HSM, 1, hart=1, ret="-1 0") + answered(HSM, 2, 1, ret="0 1"), UNEXPLAINED, 8),
@@ -226,6 +228,8 @@ TOLD = [
     ("a shutdown that doesn't come", TWO + call(SRST, 0, 0) + "m end limit\n", "unjudged", 6),
     ("an address beyond the board's RAM that is refused", TWO + answered(HSM, 0, 2, 0x80a00000, ret="-5 0"), "unjudged", 6),
     ("an answer that wasn't seen", TWO + answered(HSM, 2, 1, ret="- -"), "unjudged", 6),
+    *((f"a {what} whose answer wasn't seen, and that did nothing", TWO + answered(*numbers, ret="- -", hart=1) + answered(HSM, 2, 1) + answered(IPI, 0, 1, hart=1), "unjudged", 6)
+      for what, numbers in (("stop", (HSM, 1)), ("reset", (SRST, 0, 1)), ("suspend", (HSM, 3, 1 << 31, 0x80200100)))),
     ("a fence whose answer wasn't seen", TWO + answered(RFENCE, 0, 3, ret="- -"), "unjudged", 6),
     ("a reset that doesn't come", TWO + call(SRST, 0, 1) + answered(TIME, 0, 5, hart=1) + "m end limit\n", "unjudged", 6),
     ("sie at an entry by start", TWO.replace("1 entry 0x80200100 1 7", "1 entry 0x80200100 1 7 sie=0x2"), "open", 5),

@@ -240,9 +240,11 @@ class Differences:
 
     def of_failing(self, state, call, shown):
         """A hart that is STARTED here is in a suspend there, which fails later: its state, and what a start of it answers."""
+        if call.op[1] != HSM or shown[0] != "ret":
+            return None
         (fid, hart), seen = call.op[2:4], shown[1:]
         is_suspending = fid == 2 and seen[0] == 0 and seen[1] in SUSPENDING or fid == 0 and seen[0] == INVALID_PARAM
-        if call.op[1] != HSM or shown[0] != "ret" or hart >= self.record.harts or state.board.harts[hart].state != STARTED or not is_suspending:
+        if hart >= self.record.harts or state.board.harts[hart].state != STARTED or not is_suspending:
             return None
         return verdict_of("failing suspends") if any(self.fails_beside(place, call.place) for place in self.places[hart]) else None
 

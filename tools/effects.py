@@ -6,8 +6,9 @@ from board_model import (
     ALL, GONE, HSM, IPI, RESUME_PENDING, RFENCE, SRST, SSI, START_PENDING, STARTED, STI, SUSPEND_PENDING, SUSPENDED, TIME, WAITING,
 )  # fmt: skip
 from differences import Differences, is_refusal
+from liveness import leaves
 from numbers_here import Numbers
-from records import is_reset, is_suspend
+from records import UNSEEN, is_reset, is_suspend
 from registers import READ_SIE
 from rules import verdict_of
 from states import Difference, Open
@@ -110,6 +111,10 @@ class Effects(Differences):
         """The call is done: in the moment that is chosen, between its line and its return."""
         call = state.calls[hart]
         line, shown = self.lines[call.place], self.shown(call.place)
+        if line.reply is not None and self.lines[line.reply].numbers == UNSEEN and leaves(line):
+            # (whatever its answer was, it has returned, and so done nothing)
+            state.calls[hart] = Open(call.place, call.op, GONE)
+            return GONE
         until = "" if line.reply is None else f" to {self.lines[line.reply].number}"
         why = f"line {line.number}{until}"
         if call.op[1:3] == (TIME, 0) and state.offset and call.op[3] != ALL:
