@@ -195,7 +195,8 @@ impl fmt::Display for Missing {
 /// Why a step isn't the needed one, though its actor and operation are.
 fn why_other(mark: Option<Mark>) -> &'static str {
     match mark {
-        Some(Mark::Stale | Mark::Missed) => "; such a step uses no TLB entry, and takes no page fault",
+        Some(Mark::Stale | Mark::Missed) =>
+            "; such a step uses no TLB entry, and takes no page fault",
         Some(Mark::Unsteady) => {
             "; such a step uses no TLB entry, takes no page fault, and fetches no word"
         }
