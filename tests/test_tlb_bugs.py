@@ -44,7 +44,7 @@ class TlbBugs(Test):
 
     def test_tlb_bugs__the_page_and_the_folder(self):
         """The page and the folder's own list have each bug of the folder; a bug and its twin ask the same, which tells them apart where a column fails."""
-        names, listed = rows(), re.findall(r"^- `([\w-]+)`: .*[^.]$", read(os.path.join(FOLDER, "README.md")), re.M)
+        names, listed = rows(), re.findall(r"^- `([\w-]+)`: .*[^.]$", read(os.path.join(FOLDER, "BUGS.md")), re.M)
         files = sorted(it for it in os.listdir(FOLDER) if it.endswith(".program"))
         must(f"{files}, {names}", files == sorted(f"{name}{it}.program" for name in names for it in ("", ".mended")) and len(names) > 12)
         must(f"{listed}", listed == list(names))

@@ -255,7 +255,7 @@ class Table:
         if not self.own.points[0].line:
             return ["no order ends stuck, and there is no condition"]
         lines = ", ".join(str(self.own.points[it].line) for it in self.asked)
-        none = "no condition fails" if len(self.asked) == len(self.own.points) else f"none of the conditions in line{'s' * (',' in lines)} {lines} fails"
+        none = "no condition fails" if len(self.asked) == len(self.own.points) else f"of the conditions in line{'s' * (',' in lines)} {lines} none fails"
         return [none, *filter(None, (found.said(it) for it in self.asked if verdicts[it] == HOLDS))]
 
 
