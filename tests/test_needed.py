@@ -8,6 +8,7 @@ import subprocess
 
 import board_model
 from board_model import IPI, RFENCE, number, words_of
+from program_model import Program
 
 from . import judge
 from .all_orders import Orders
@@ -181,6 +182,9 @@ class Needed(Test):
         for line, words in table.conditions.items():
             must(f"{name}: line {line}: {words}, and not {own[line]}", (": fails" in words, "can't tell" in words) == (own[line] == "fails", own[line] != "holds"))
         asked, unnoticed, wanted = [it for it in own if own[it] == "holds"], 0, dict(changed(text))
+        if not asked:
+            must(f"{name}: {table.rows}, {table.last}", not table.rows and table.last == "# no condition holds, so nothing is left out" and status == 1)
+            return table
         must(f"{name}: {table.rows}, and not {list(wanted)}", list(table.changes()) == list(wanted))
         for key, other in wanted.items():
             words, found = table.rows[key], judged(other)
@@ -196,7 +200,7 @@ class Needed(Test):
         if not wanted:
             must(f"{name}: {table.last}", table.last == "# nothing to leave out: no fence and no IPI" and status == 1)
             return table
-        must(f"{name}: {table.last}", not asked or table.last == f"# {len(wanted)} change{'s' * (len(wanted) != 1)}: {counts}")
+        must(f"{name}: {table.last}", table.last == f"# {len(wanted)} change{'s' * (len(wanted) != 1)}: {counts}")
         must(f"{name}: status {status}", status == (1 if unnoticed or len(asked) < len(own) else 0))
         return table
 
@@ -205,7 +209,7 @@ class Needed(Test):
         mark = f".without-{key[0]}" + (f"-hart-{key[1].rpartition(' ')[2]}" if key[1] != "without it" else "")
         must(record, record.endswith(f"{mark}.{line}.failed"))
         printed = read(os.path.join(self.work, record))
-        followed = judge.Followed(judge.Program(text), printed)
+        followed = judge.Followed(Program(text), printed)
         asked = next((it for it in judge.conditions(text) if it.line == line), None)
         must(f"{record}: {printed}", followed.end == "stuck" if asked is None else not judge.holds(asked, followed.steps, followed.end))
 
