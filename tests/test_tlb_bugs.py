@@ -32,7 +32,7 @@ class TlbBugs(Test):
         room = os.path.join(self.room, name)
         os.makedirs(room, exist_ok=True)
         text = text.replace(f"#! {asked_of(text)}\n", f"#! {asked}\n")
-        status, lines = told(room, text, name="a.program")
+        status, lines = told(room, text, "--times", "60", name="a.program")
         holds = lines[1].startswith(f"ok 1 - a.program: line 2: {asked}: holds in ")
         must(f"{name}: {asked}: {status} {lines}", status == (0 if holds else 1) and (holds or lines[1].startswith(f"not ok 1 - a.program: line 2: {asked}: fails in ")))
         if not holds:

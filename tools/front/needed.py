@@ -1,6 +1,5 @@
 """`explore --needed`: leaves out each fence of a program, each IPI, and each hart of their masks in turn, and prints which conditions
 then fail. A condition is judged by `explore`, or by `test` if `explore` refuses it."""
-import contextlib
 import os
 import shutil
 import signal
@@ -43,10 +42,10 @@ WITHOUT = Change("without it", "", b"")
 def changes_of(line, harts):
     """The changes of a line: those of a fence or of a call that asks harts for one or sends IPIs; of others there are none."""
     words = line.partition(b"#")[0].split()
-    if not words or words[0] in FENCES:
-        return [WITHOUT] * len(words[:1])
-    if words[0] != b"ecall":
+    if not words or words[0] not in (*FENCES, b"ecall"):
         return []
+    if words[0] in FENCES:
+        return [WITHOUT]
     eid, fid, mask, base = [*(number(it.decode()) for it in words[1:5]), 0, 0][:4]
     if (eid, fid) not in CALLS:
         return []
@@ -325,6 +324,3 @@ def run_needed(program, given):
         signal.signal(signal.SIGPIPE, signal.SIG_DFL)
         os.kill(os.getpid(), signal.SIGPIPE)
         return BAD_FILE, ""
-    finally:
-        with contextlib.suppress(ValueError):
-            signal.signal(signal.SIGPIPE, signal.SIG_DFL)
