@@ -47,7 +47,8 @@ class Option:
     is_path: bool = False
     is_many: bool = False
     is_needed: bool = True
-    excludes: str = ""
+    # The names of those that can't be given beside it.
+    excludes: tuple = ()
     # The values that it may have, where these are few.
     choices: tuple = ()
     # What the script does with what the program reads and prints; the program doesn't know it.
@@ -147,6 +148,10 @@ AT = own("at", "Print only the board's table behind line LINE of FILE", value="L
 DIFF = own("diff", "Print below each step its changes to the board's table")
 EXPLAIN = own("explain", "Report each fault of a file by line and column, with suggestions")
 OF_POINTS = (TAP_VERSION, JUNIT, HTML, JSON, EXPLAIN)
+NEEDED = own(
+    "needed", "Leave out each fence, each IPI and each hart of their masks in turn, and print which conditions then fail",
+    excludes=(TAP.name, *(it.name for it in OF_POINTS)),
+)  # fmt: skip
 
 RUN = of_file(
     "run", "Run a program's blocks on threads, one for each hart and one for the clock, and print the record, the board and how it ended",
@@ -160,7 +165,7 @@ TEST = Command(
     (
         number("times", "N", "How many orders of each program to try", default="1000"),
         number("seed", "S", "The seed of the orders", default="0"),
-        number("order", "K", "Try only order K of the seed", excludes="times"),
+        number("order", "K", "Try only order K of the seed", excludes=("times",)),
         number("jobs", "J", "How many orders to try at a time (default: one per processor)"),
         Option("threads", "Also run each program as often on real threads"),
         number("seconds", "N", "Try orders for at most N seconds"),
@@ -173,7 +178,7 @@ EXPLORE = Command(
     (
         number("states", "N", "The limit of states", default="1000000"),
         Option("no-outcomes", "Don't report what each load gave last"),
-        SECONDS, FAILED, TAP, *OF_POINTS, HELP,
+        SECONDS, FAILED, TAP, *OF_POINTS, NEEDED, HELP,
     ),
     (OF_TESTER, "AFTER_EXPLORE"), Option("", "Programs, with their conditions", value="FILE", is_many=True), TESTER, ("program",),
 )  # fmt: skip

@@ -13,7 +13,7 @@ import tempfile
 import threading
 from concurrent.futures import ThreadPoolExecutor
 
-from commands import AT, DIFF, EXPLAIN, HTML, JSON, JUNIT, TAP_VERSION, TESTER
+from commands import AT, DIFF, EXPLAIN, HTML, JSON, JUNIT, NEEDED, TAP_VERSION, TESTER
 from kinds import MOST_BYTES, lines_of, why_unread
 
 # (what reads printed lines is of use where such an option is given alone)
@@ -44,6 +44,10 @@ def run_read(program, command, words, given):
         # (a file that is opened would take its number)
         return BAD_FILE, FAILED_IO
     try:
+        if NEEDED.name in given:
+            from needed import run_needed
+
+            return run_needed(program, given)
         if command.program == TESTER:
             return Points(program, command, words, given).run()
         return Script(program, command, words, given).run()

@@ -193,7 +193,7 @@ def without_value(option):
 
 
 def excluding(option, other):
-    return option.name and other.name and (option.excludes == other.name or other.excludes == option.name)
+    return option.name and other.name and (other.name in option.excludes or option.name in other.excludes)
 
 
 def help_of(command, words):
