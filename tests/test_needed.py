@@ -220,7 +220,7 @@ class Needed(Test):
         text = read(os.path.join(EXAMPLES, "orders/forgotten-hart.program")).replace(*MENDED)
         table = self.must_be_judged("mended.program", text)
         at = 1 + text[: text.index(MENDED[1])].count("\n")
-        must(f"{table.rows}", told_of(table.rows[at, "mask without hart 1"])[0] == {4} and told_of(table.rows[at, "mask without hart 2"])[0] == {3, 4} and told_of(table.rows[at, "without it"]) == ({3}, {4}))
+        must(f"{table.rows}", told_of(table.rows[at, "mask without hart 1"])[0] == {4} and told_of(table.rows[at, "mask without hart 2"])[0] == {3, 4, 5} and told_of(table.rows[at, "without it"]) == ({3, 5}, {4}))
 
     def test_needed__stored_tables(self):
         """The whole output of some examples is stored."""
