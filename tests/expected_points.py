@@ -5,7 +5,7 @@ from collections import Counter
 
 from board_model import CHANGES, GUEST, STARTED, STORES, SUSPENDED, number, words_of
 
-from . import judge
+from . import expected_causes, judge
 from .all_orders import READING, Program
 from .fixtures import must, read
 from .judge import Followed, NoOrder, Verdicts, broken_at
@@ -382,10 +382,26 @@ def take_tried(case, told, point, folder, seed, orders):
             told.take("  ...")
         if it is not None and not is_each_met(it, [step for _, step in lined]) and (empty is None or "vacuous" not in empty and "no order ends" in empty):
             told.take(never_met(it))
-    told.take(*case.odd_lines([step for order in orders for step in order.odd]))
+    told.take(*case.odd_lines([step for order in orders for step in order.odd]), *stale_lines(case, seed, orders))
     return len(asked), failed
 
 
+def stale_lines(case, seed, orders):
+    """Of each line the first order in which it is stale, and the first in which a fence call missed it, with the cause."""
+    found = {}
+    for number, order in enumerate(orders):
+        causes = expected_causes.of_program(case.text, "\n".join([case.board_line(case.limit), *order.record.lines]))
+        for place in causes.stale():
+            (lines,), is_missed, line = causes.told(place, may=False), causes.is_missed(place), causes.lines[place]
+            ways = found.setdefault(line, {})
+            if not ways or is_missed and True not in ways:
+                why = "a walk gives another translation" if "the word" not in lines[0] else "memory has another word"
+                ways[is_missed] = [f"# line {line}: stale: {why}, in order {number} of seed {seed}{MISSED if is_missed else ''}", *(f"#   {it}" for it in lines)]
+    return [it for line in sorted(found) for way in found[line].values() for it in way]
+
+
+# What is said of a stale line that a fence call missed.
+MISSED = "; a fence call missed it"
 # What is said of a condition of which some orders don't tell.
 ASKS_OF_ALL = ": not judged: it asks of all orders"
 

@@ -4,6 +4,7 @@
 mod orders;
 mod pace;
 mod points;
+mod stale_orders;
 mod threaded;
 
 pub use orders::test_orders;
