@@ -1,5 +1,9 @@
 """What conditions say of accesses on any TLB: which are stale, which a fence call missed, and which are unsteady, of schedules and traces, and of tried orders."""
-from .fixtures import TESTER, Test, must, told
+import os
+
+from .fixtures import EXAMPLES, TESTER, Test, must, read, told
+from .judge import Verdicts, condition
+from .marked_orders import MarkedOrders
 from .test_empty_verdicts import in_way, points
 
 BEFORE = """\
@@ -146,8 +150,12 @@ def shootdown(mask, uses=USES):
 FORGETS, FENCES = shootdown("0x2"), shootdown("0x6")
 # A load that may come before the fence is served.
 WINDOW = shootdown("0x6", USES.replace("wfi\n", "load 0x1000\nwfi\n"))
+# A hart that is told to go on before the fence is asked for, and the mended twin.
+EARLY, LATE = (read(os.path.join(EXAMPLES, f"orders/early-wake{it}.program")) for it in ("", ".mended"))
+EARLY, LATE = ("".join(it for it in text.splitlines(True) if not it.startswith("#")) for text in (EARLY, LATE))
 # A program, and which of these conditions its orders meet.
 PROGRAMS = (
+    (EARLY, {"steady": False, "never stale": False, "some 1 load 0x1000 -> stale": True, "never _ -> stale after 0 poll": True}), (LATE, {"steady": True, "never stale": True, "some _ -> unsteady": False}),
     (FORGETS, {"never missed": False, "never 1 -> missed": True, "some 2 load -> missed": True, "never stale": False, "steady": False, "steady 1": True, "never 1 -> stale": True, "some 2 load -> stale": True, "each 2 load -> stale": False, "never 2 -> stale after 0 poll": False, "before 0 poll, 2 load -> stale": True, "maybe never stale": False}),
     (FENCES, {"never missed": True, "never stale": True, "steady": True, "some 2 load -> stale": False, "never _ -> unsteady after 0 poll": True}),
     (WINDOW, {"never missed": True, "never stale": False, "steady": False, "never _ -> stale after 0 poll -> ret 0 _": True, "some _ load -> stale": True}),
@@ -195,6 +203,15 @@ class Marks(Test):
         for text, asked, met in ((FORGETS, "never 2 load -> stale", False), (FORGETS, "never 1 load -> stale", True), (FENCES, "never stale", True), (FENCES, "steady", True)):
             status, found, lines = in_way(self.room, ("sbiboard", ("--times", "5", "--threads")), f"#! {asked}\n{text}")
             must(f"{asked}: {lines}", status == (0 if met else 1) and [it.startswith("ok ") for it in found] == [met, met])
+
+    def test_all_orders_of_programs(self):
+        """What tried orders of these programs meet is what all of their orders do, by an enumeration that shares no code with the program."""
+        for text, asked in PROGRAMS:
+            verdicts = Verdicts(MarkedOrders(text))
+            for it, met in asked.items():
+                if "missed" not in it:
+                    wanted = condition(1, it.replace("maybe ", ""))
+                    must(f"{it}: {text}", (verdicts.fewest(wanted) is None) == (met != (wanted.word == "some")))
 
     def test_a_failing_order_is_kept(self):
         """The record of the first order that fails tells the access that has the mark."""
