@@ -2,8 +2,8 @@
 import os
 
 from .fixtures import EXAMPLES, TESTER, Test, must, read, told
-from .judge import Verdicts, condition
-from .marked_orders import MarkedOrders
+from .judge import Verdicts, condition, holds
+from .marked_orders import MarkedOrders, steps_of
 from .test_empty_verdicts import in_way, points
 
 BEFORE = """\
@@ -203,6 +203,14 @@ class Marks(Test):
         for text, asked, met in ((FORGETS, "never 2 load -> stale", False), (FORGETS, "never 1 load -> stale", True), (FENCES, "never stale", True), (FENCES, "steady", True)):
             status, found, lines = in_way(self.room, ("sbiboard", ("--times", "5", "--threads")), f"#! {asked}\n{text}")
             must(f"{asked}: {lines}", status == (0 if met else 1) and [it.startswith("ok ") for it in found] == [met, met])
+
+    def test_known_answers_of_the_enumeration(self):
+        """The enumeration's own marks are those of the tables, of schedules too."""
+        known = [(text, it, met) for text, asked in CASES + FENCE_CALLS for it, met in asked.items()]
+        known += [(text, asked, met) for asked, wrong, right in TWINS for text, met in ((wrong, False), (right, True))]
+        for text, it, met in known:
+            if "missed" not in it:
+                must(f"{it}: {text}", holds(condition(1, it), steps_of(text), None) == met)
 
     def test_all_orders_of_programs(self):
         """What tried orders of these programs meet is what all of their orders do, by an enumeration that shares no code with the program."""
