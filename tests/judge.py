@@ -167,6 +167,10 @@ def misfits(step, reply, harts):
     yield from (f"no {op} has {word}" for place, word in enumerate(step[2:]) if op is not None and not can_be(op, place, word))
     if actor == "c":
         op = "tick"
+    if said in MARKS:
+        if op is not None and op not in CAUSES:
+            yield f"no {op} is {said}"
+        return
     if op is not None and said is not None and said not in REPLIES.get(op, ("done",)):
         yield f"no {op} has the reply {said}"
     if said is not None:

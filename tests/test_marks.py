@@ -2,7 +2,7 @@
 import os
 
 from .fixtures import EXAMPLES, TESTER, Test, must, read, told
-from .judge import Verdicts, condition, holds
+from .judge import Verdicts, condition, holds, misfit
 from .marked_orders import MarkedOrders, steps_of
 from .test_empty_verdicts import in_way, points
 
@@ -205,7 +205,9 @@ class Marks(Test):
             must(f"{asked}: {lines}", status == (0 if met else 1) and [it.startswith("ok ") for it in found] == [met, met])
 
     def test_known_answers_of_the_enumeration(self):
-        """The enumeration's own marks are those of the tables, of schedules too."""
+        """The enumeration's own marks are those of the tables, of schedules too; and the judge tells what no step can have."""
+        for asked, why in WRONG:
+            must(asked, misfit(condition(1, asked), 3) == why)
         known = [(text, it, met) for text, asked in CASES + FENCE_CALLS for it, met in asked.items()]
         known += [(text, asked, met) for asked, wrong, right in TWINS for text, met in ((wrong, False), (right, True))]
         for text, it, met in known:
