@@ -10,7 +10,7 @@ use Rattle.any_tlb.specs.declared.watcher.Walking.TheVariants.{Had, Fenced}
 use Rattle.any_tlb.specs.Possible.{leaves_no_copy}
 use Rattle.any_tlb.specs.Watch.{entries_left, given_by, given_for, logged, spared}
 use Rattle.tlb_watch.specs.declared.hart_address.HartAddress.{HartAddress}
-use Rattle.tlb_watch.specs.Inside.Kept.{others}
+use Rattle.tlb_watch.specs.Kept.{others}
 use Rattle.tlb_watch.specs.Sets.{HaveSameMembers, IsIn}
 use Rattle.tlb_watch.specs.Watched.{GiveTheSame, WatchTheSame, WatchedAddress, after_event}
 use Rattle.tlb_watch.proofs.Members.{in-cases, in-filter, in-left, in-right, out-filter, same-by, same-filtered, same-joined, same-on, same-self}

@@ -4,3 +4,6 @@ pub mod Tracking
 pub mod Staling
 pub mod Quieting
 pub mod Lists
+pub mod Leaves
+pub mod Keeping
+pub mod Deciding
