@@ -1,0 +1,10 @@
+-- One local step more.
+use Rattle.std.proofs.Common.{◌≡◌, ℕ, zero, suc, ◌-◌, ◌<◌, refl, ap, arith}
+use Rattle.asm_guests.specs.declared.state.State.{State}
+use Rattle.asm_guests.specs.Guests.{Code, fetched, settled}
+
+pub settled_more : (code : Code) (n : ℕ) (s : State) → 0 < n → settled code n s ≡ fetched code (code.instruction s.pc) s (settled code (n - 1))
+settled_more code zero s some = absurd (omega arith)
+settled_more code (suc n) s some =
+    let less : n ≡ suc n - 1 = omega arith in
+    ap (λ k. fetched code (code.instruction s.pc) s (settled code k)) less

@@ -1,0 +1,87 @@
+-- The rule of each form of operands.
+use Rattle.std.specs.Prelude.{ℕ, Bool, true, false, List, Result, Ok, Err}
+use Rattle.asm_expressions.specs.declared.faults.Fault.{Fault}
+use Rattle.asm_expressions.specs.declared.faults.Wrong.{Wrong}
+use Rattle.asm_expressions.specs.declared.faults.Wrong.TheVariants as wrongs
+use Rattle.asm_expressions.specs.Symbols.{Context}
+use Rattle.asm_mnemonics.specs.declared.forms.OperandForm.{OperandForm}
+use Rattle.asm_mnemonics.specs.declared.forms.OperandForm.TheVariants.{Registers, Immediate, Shift, Lui, Auipc, Load, StoreDouble, StoreNarrow, Amo, Fetch, Branch, TurnedBranch, BranchToZero, BranchFromZero, Jal, Jalr, Goto, JumpRegister, Return, Call, Tail, LoadAddress, LoadImmediate, Nop, Copy, Csr, CsrImmediate, ReadCsr, WriteCsr, WriteCsrImmediate, Fence, FenceTso, FenceI, SfenceVma, Wfi, Ecall, Ebreak, Sret, Refused}
+use Rattle.asm_tokens.specs.declared.reader.Placed.{Placed}
+use Rattle.rv64_instructions.specs.declared.instruction.Instruction.TheVariants as does
+use Rattle.asm_instructions.specs.declared.made.Made.{Made}
+use Rattle.asm_instructions.specs.declared.memory.StoreSize.TheVariants.{Double, Narrow}
+use Rattle.asm_instructions.specs.declared.operands.Operands.{Operands}
+use Rattle.asm_instructions.specs.Compute.{auipc_rule, copy_rule, immediate_rule, la_rule, li_rule, lui_rule, nop_rule, registers_rule, shift_rule}
+use Rattle.asm_instructions.specs.Jumps.{branch_rule, branch_zero_rule, call_rule, goto_rule, jal_rule, jalr_rule, jr_rule, return_rule, tail_rule}
+use Rattle.asm_instructions.specs.Memory.{amo_rule, fetch_rule, load_rule, store_rule}
+use Rattle.asm_instructions.specs.Operands.{operands_in}
+use Rattle.asm_instructions.specs.Supervisor.{alone_rule, csr_rule, fence_rule, read_csr_rule, sfence_rule, write_csr_rule}
+
+-- what a form makes of its operands, at an address
+unfoldable pub rule_by : OperandForm → (here : ℕ) → Operands → Result Made Wrong
+rule_by (Registers op) here operands = registers_rule op operands
+rule_by (Immediate op) here operands = immediate_rule op operands
+rule_by (Shift op) here operands = shift_rule op operands
+rule_by Lui here operands = lui_rule operands
+rule_by Auipc here operands = auipc_rule here operands
+rule_by (Load kind) here operands = load_rule kind here operands
+rule_by StoreDouble here operands = store_rule Double here operands
+rule_by (StoreNarrow name) here operands = store_rule (Narrow name) here operands
+rule_by (Amo name) here operands = amo_rule name operands
+rule_by Fetch here operands = fetch_rule operands
+rule_by (Branch when) here operands = branch_rule when false here operands
+rule_by (TurnedBranch when) here operands = branch_rule when true here operands
+rule_by (BranchToZero when) here operands = branch_zero_rule when false here operands
+rule_by (BranchFromZero when) here operands = branch_zero_rule when true here operands
+rule_by Jal here operands = jal_rule here operands
+rule_by Jalr here operands = jalr_rule operands
+rule_by Goto here operands = goto_rule here operands
+rule_by JumpRegister here operands = jr_rule operands
+rule_by Return here operands = return_rule operands
+rule_by Call here operands = call_rule here operands
+rule_by Tail here operands = tail_rule here operands
+rule_by LoadAddress here operands = la_rule here operands
+rule_by LoadImmediate here operands = li_rule operands
+rule_by Nop here operands = nop_rule operands
+rule_by (Copy what) here operands = copy_rule what operands
+rule_by (Csr how) here operands = csr_rule how true operands
+rule_by (CsrImmediate how) here operands = csr_rule how false operands
+rule_by ReadCsr here operands = read_csr_rule operands
+rule_by (WriteCsr how) here operands = write_csr_rule how true operands
+rule_by (WriteCsrImmediate how) here operands = write_csr_rule how false operands
+rule_by Fence here operands = alone_rule does.Fence operands
+rule_by FenceTso here operands = alone_rule does.Fence operands
+rule_by FenceI here operands = alone_rule does.FenceI operands
+rule_by SfenceVma here operands = sfence_rule operands
+rule_by Wfi here operands = alone_rule does.Wfi operands
+rule_by Ecall here operands = alone_rule does.Ecall operands
+rule_by Ebreak here operands = alone_rule does.Ebreak operands
+rule_by Sret here operands = alone_rule does.Sret operands
+rule_by (Refused refusal) here operands = Err wrongs.Refused
+
+-- whether an operand of this form can be a CSR
+abbrev pub takes_csr : OperandForm → Bool
+takes_csr (Csr how) = true
+takes_csr (CsrImmediate how) = true
+takes_csr ReadCsr = true
+takes_csr (WriteCsr how) = true
+takes_csr (WriteCsrImmediate how) = true
+takes_csr form = false
+
+-- what is wrong, at its place
+abbrev pub placed : (left : ℕ) → Result Made Wrong → Result Made Fault
+placed left (Ok made) = Ok made
+placed left (Err wrong) = Err (record { wrong = wrong; left = left })
+
+abbrev pub ruled : OperandForm → (here left : ℕ) → Result Operands Fault → Result Made Fault
+ruled form here left (Err fault) = Err fault
+ruled form here left (Ok operands) = placed left (rule_by form here operands)
+
+-- FENCE takes sets of accesses, which aren't values
+abbrev pub made_by : Context → OperandForm → (left : ℕ) → List Placed → Result Made Fault
+made_by scope Fence left tokens = placed left (fence_rule tokens)
+made_by scope form left tokens = ruled form scope.here left (operands_in scope (takes_csr form) tokens)
+
+-- What a form and its operands make; `left` is the place of the mnemonic.
+abbrev pub made_of : Context → OperandForm → (left : ℕ) → List Placed → Result Made Fault
+made_of scope form left tokens = made_by scope form left tokens

@@ -1,0 +1,216 @@
+//! Operands of instructions, as their tokens say.
+ghost use Rattle.std.specs.Prelude.{◌≡◌, ◌≤◌, IfSome, option_map, length};
+ghost use Rattle.asm_expressions.specs.Symbols.{context_of};
+ghost use Rattle.asm_instructions.specs.Operands.{back_of, base_behind, base_in, before_comma, expression, front_of, more_operands, offset_of, operand_in, operands_in, word_operand, word_of};
+ghost use Rattle.asm_instructions.specs.Rules.{ruled, takes_csr};
+
+use crate::csrs::csr_named;
+use crate::made::Made;
+use crate::rules::{placed, rule, takes_csr};
+use asm_expressions::{Fault, Scope, value_of};
+use asm_mnemonics::OperandForm;
+use asm_tokens::{Mark, Placed, Token, register_number};
+use rv64_instructions::Csr;
+
+/// A CSR by its name.
+#[derive(Clone, Copy, Debug, PartialEq, Eq)]
+pub enum CsrName {
+    /// One whose copy guests keep.
+    Kept(Csr),
+    /// sip, which the board keeps alone.
+    Sip,
+}
+
+/// An operand of an instruction.
+#[derive(Clone, Copy, Debug)]
+pub enum Operand {
+    /// A register, by its number.
+    Register(u8),
+    /// The value of an expression.
+    Value(u64),
+    /// `offset(register)`, or `(register)`.
+    Memory(u64, u8),
+    /// A CSR, where the instruction takes one.
+    Csr(CsrName),
+}
+
+/// The operands of an instruction.
+#[derive(Clone, Copy, Debug)]
+pub enum Operands {
+    /// None.
+    Nothing,
+    /// One.
+    One(Operand),
+    /// Two.
+    Two(Operand, Operand),
+    /// Three.
+    Three(Operand, Operand, Operand),
+}
+
+/// What the rule of a form makes of the operands that tokens are.
+pub(crate) fn rule_operands(
+    scope: &Scope<'_, '_>,
+    form: OperandForm,
+    left: usize,
+    tokens: &[Placed<'_>],
+) -> Result<Made, Fault>
+    ensures { result ≡ ruled form scope.now.here left (operands_in (context_of scope.now) (takes_csr form) tokens.now) }
+{
+    let operands = read_operands(scope, takes_csr(form), tokens)?;
+    placed(left, rule(form, scope.here, &operands))
+}
+
+/// The operands that a statement's tokens behind the mnemonic are; there are commas between them.
+pub(crate) fn read_operands(
+    scope: &Scope<'_, '_>,
+    takes_csr: bool,
+    tokens: &[Placed<'_>],
+) -> Result<Operands, Fault>
+    ensures { result ≡ operands_in (context_of scope.now) takes_csr tokens.now }
+{
+    if tokens.is_empty() {
+        return Ok(Operands::Nothing);
+    }
+    let (front, rest) = first_operand(tokens);
+    let first = read_operand(scope, takes_csr, front)?;
+    if front.len() == tokens.len() {
+        return Ok(Operands::One(first));
+    }
+    more_operands(scope, takes_csr, first, rest)
+}
+
+/// The first operand, and those behind its comma.
+fn more_operands(
+    scope: &Scope<'_, '_>,
+    takes_csr: bool,
+    first: Operand,
+    tokens: &[Placed<'_>],
+) -> Result<Operands, Fault>
+    ensures { result ≡ more_operands (context_of scope.now) takes_csr first tokens.now }
+{
+    let (front, rest) = first_operand(tokens);
+    let second = read_operand(scope, takes_csr, front)?;
+    if front.len() == tokens.len() {
+        return Ok(Operands::Two(first, second));
+    }
+    let third = read_operand(scope, takes_csr, rest)?;
+    Ok(Operands::Three(first, second, third))
+}
+
+/// The operand that tokens are.
+fn read_operand(
+    scope: &Scope<'_, '_>,
+    takes_csr: bool,
+    tokens: &[Placed<'_>],
+) -> Result<Operand, Fault>
+    ensures { result ≡ operand_in (context_of scope.now) takes_csr tokens.now }
+{
+    if let Some(named) = word_operand(takes_csr, tokens) {
+        return Ok(named);
+    }
+    match base(tokens) {
+        Some((n, register)) => {
+            let offset = offset_of(scope, &tokens[..n])?;
+            Ok(Operand::Memory(offset, register))
+        }
+        None => expression(scope, tokens),
+    }
+}
+
+/// The operand that one word is: a register, or a CSR where the instruction takes one.
+fn word_operand(takes_csr: bool, tokens: &[Placed<'_>]) -> Option<Operand>
+    ensures { result ≡ word_operand takes_csr tokens.now }
+{
+    let word = word_of(tokens)?;
+    match register_number(word) {
+        Some(register) => Some(Operand::Register(register)),
+        None if takes_csr => Some(Operand::Csr(csr_named(word)?)),
+        None => None,
+    }
+}
+
+/// The one word that tokens are.
+fn word_of<'a>(tokens: &[Placed<'a>]) -> Option<&'a [u8]>
+    ensures { option_map (λ word. word.now) result ≡ word_of tokens.now }
+{
+    match tokens {
+        [only] => match only.token {
+            Token::Word(word) => Some(word),
+            _ => None,
+        },
+        _ => None,
+    }
+}
+
+/// The value of an expression, as an operand.
+fn expression(scope: &Scope<'_, '_>, tokens: &[Placed<'_>]) -> Result<Operand, Fault>
+    ensures { result ≡ expression (context_of scope.now) tokens.now }
+{
+    let value = value_of(scope, tokens)?;
+    Ok(Operand::Value(value))
+}
+
+/// The offset before a base: no tokens are 0.
+fn offset_of(scope: &Scope<'_, '_>, tokens: &[Placed<'_>]) -> Result<u64, Fault>
+    ensures { result ≡ offset_of (context_of scope.now) tokens.now }
+{
+    if tokens.is_empty() {
+        return Ok(0);
+    }
+    value_of(scope, tokens)
+}
+
+/// The base that tokens end with, a register in parentheses, and the number of tokens before it.
+pub(crate) fn base(tokens: &[Placed<'_>]) -> Option<(usize, u8)>
+    ensures base { result ≡ base_in 0 tokens.now }
+    ensures within { IfSome result (λ found. found.0 ≤ length tokens.now) }
+{
+    for i in 0..tokens.len() {
+        match base_behind(&tokens[i..]) {
+            Some(register) => return Some((i, register)),
+            None => {}
+        }
+    }
+    None
+}
+
+/// The register that these tokens are in parentheses.
+fn base_behind(tokens: &[Placed<'_>]) -> Option<u8>
+    ensures { result ≡ base_behind tokens.now }
+{
+    match tokens {
+        [open, name, close] => match (open.token, name.token, close.token) {
+            (Token::Mark(Mark::Open), Token::Word(word), Token::Mark(Mark::Close)) => {
+                register_number(word)
+            }
+            _ => None,
+        },
+        _ => None,
+    }
+}
+
+/// The tokens of the first operand, and those behind its comma.
+pub fn first_operand<'t, 'a>(tokens: &'t [Placed<'a>]) -> (&'t [Placed<'a>], &'t [Placed<'a>])
+    ensures front { result.0.now ≡ front_of tokens.now }
+    ensures back { result.1.now ≡ back_of tokens.now }
+{
+    let n = before_comma(tokens);
+    if n < tokens.len() {
+        (&tokens[..n], &tokens[n + 1..])
+    } else {
+        tokens.split_at(n)
+    }
+}
+
+/// The number of tokens before the first comma.
+fn before_comma(tokens: &[Placed<'_>]) -> usize
+    ensures before { result ≡ before_comma tokens.now }
+    ensures within { result ≤ length tokens.now }
+{
+    for (i, placed) in tokens.iter().enumerate() {
+        if matches!(placed.token, Token::Mark(Mark::Comma)) {
+            return i;
+        }
+    }
+    tokens.len()
+}

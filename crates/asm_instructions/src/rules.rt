@@ -1,0 +1,110 @@
+//! The rule of each form of operands.
+ghost use Rattle.std.specs.Prelude.{◌≡◌};
+ghost use Rattle.asm_expressions.specs.Symbols.{context_of};
+ghost use Rattle.asm_instructions.specs.Rules.{made_of, placed, rule_by, takes_csr};
+
+use crate::compute::{
+    copy, immediate, load_address, load_immediate, nop, registers, shift, upper, upper_here,
+};
+use crate::jumps::{
+    branch_registers, branch_zero, call, goto, jump_link, jump_register, jump_register_link, ret,
+    tail,
+};
+use crate::made::Made;
+use crate::memory::{StoreSize, atomic, fetch, load, store};
+use crate::operands::{Operands, rule_operands};
+use crate::supervisor::{alone, fence, on_csr, read_csr, sfence, write_csr};
+use asm_expressions::{Fault, Scope, Wrong};
+use asm_mnemonics::OperandForm;
+use asm_tokens::Placed;
+use rv64_instructions::Instruction;
+
+/// The machine's instructions that a form and its operands make; `left` is the place of the mnemonic.
+///
+/// # Errors
+///
+/// The first fault of an operand; or what is wrong with the operands together, at the mnemonic.
+pub fn made_of(
+    scope: &Scope<'_, '_>,
+    form: OperandForm,
+    left: usize,
+    tokens: &[Placed<'_>],
+) -> Result<Made, Fault>
+    ensures { result ≡ made_of (context_of scope.now) form left tokens.now }
+{
+    if let OperandForm::Fence = form {
+        return placed(left, fence(tokens));
+    }
+    rule_operands(scope, form, left, tokens)
+}
+
+/// What is wrong, at its place.
+pub(crate) fn placed(left: usize, made: Result<Made, Wrong>) -> Result<Made, Fault>
+    ensures { result ≡ placed left made }
+{
+    match made {
+        Ok(made) => Ok(made),
+        Err(wrong) => Err(Fault { wrong, left }),
+    }
+}
+
+/// Whether an operand of this form can be a CSR.
+pub(crate) fn takes_csr(form: OperandForm) -> bool
+    ensures { result ≡ takes_csr form }
+{
+    matches!(
+        form,
+        OperandForm::Csr(_)
+            | OperandForm::CsrImmediate(_)
+            | OperandForm::ReadCsr
+            | OperandForm::WriteCsr(_)
+            | OperandForm::WriteCsrImmediate(_)
+    )
+}
+
+/// The rule of a form.
+#[tactic(auto, unfolding(crate::specs::Rules::rule_by))]
+pub(crate) fn rule(form: OperandForm, here: u64, operands: &Operands) -> Result<Made, Wrong>
+    ensures { result ≡ rule_by form here operands.now }
+{
+    match form {
+        OperandForm::Registers(op) => registers(op, operands),
+        OperandForm::Immediate(op) => immediate(op, operands),
+        OperandForm::Shift(op) => shift(op, operands),
+        OperandForm::Lui => upper(operands),
+        OperandForm::Auipc => upper_here(here, operands),
+        OperandForm::Load(kind) => load(kind, here, operands),
+        OperandForm::StoreDouble => store(StoreSize::Double, here, operands),
+        OperandForm::StoreNarrow(name) => store(StoreSize::Narrow(name), here, operands),
+        OperandForm::Amo(name) => atomic(name, operands),
+        OperandForm::Fetch => fetch(operands),
+        OperandForm::Branch(when) => branch_registers(when, false, here, operands),
+        OperandForm::TurnedBranch(when) => branch_registers(when, true, here, operands),
+        OperandForm::BranchToZero(when) => branch_zero(when, false, here, operands),
+        OperandForm::BranchFromZero(when) => branch_zero(when, true, here, operands),
+        OperandForm::Jal => jump_link(here, operands),
+        OperandForm::Jalr => jump_register_link(operands),
+        OperandForm::Goto => goto(here, operands),
+        OperandForm::JumpRegister => jump_register(operands),
+        OperandForm::Return => ret(operands),
+        OperandForm::Call => call(here, operands),
+        OperandForm::Tail => tail(here, operands),
+        OperandForm::LoadAddress => load_address(here, operands),
+        OperandForm::LoadImmediate => load_immediate(operands),
+        OperandForm::Nop => nop(operands),
+        OperandForm::Copy(what) => copy(what, operands),
+        OperandForm::Csr(how) => on_csr(how, true, operands),
+        OperandForm::CsrImmediate(how) => on_csr(how, false, operands),
+        OperandForm::ReadCsr => read_csr(operands),
+        OperandForm::WriteCsr(how) => write_csr(how, true, operands),
+        OperandForm::WriteCsrImmediate(how) => write_csr(how, false, operands),
+        OperandForm::Fence | OperandForm::FenceTso => alone(Instruction::Fence, operands),
+        OperandForm::FenceI => alone(Instruction::FenceI, operands),
+        OperandForm::SfenceVma => sfence(operands),
+        OperandForm::Wfi => alone(Instruction::Wfi, operands),
+        OperandForm::Ecall => alone(Instruction::Ecall, operands),
+        OperandForm::Ebreak => alone(Instruction::Ebreak, operands),
+        OperandForm::Sret => alone(Instruction::Sret, operands),
+        OperandForm::Refused(_) => Err(Wrong::Refused),
+    }
+}

@@ -1,0 +1,39 @@
+-- The data of a program: numbers of 1, 2, 4 or 8 bytes (GNU as, .byte, .2byte, .4byte, .8byte; RISC-V-Directives).
+use Rattle.std.specs.Prelude.{ℕ, zero, suc, ◌+◌, ◌/◌, ◌%◌, ◌^◌, nat_lt, ◌||◌, ◌==◌, if◌then◌else◌, List, [], ◌∷◌, ◌++◌, Result, Ok, Err}
+use Rattle.asm_expressions.specs.declared.faults.Fault.{Fault}
+use Rattle.asm_expressions.specs.declared.faults.Wrong.TheVariants.{OutOfRange}
+use Rattle.asm_expressions.specs.Symbols.{Context}
+use Rattle.asm_expressions.specs.Values.{value_of, wrong_at}
+use Rattle.asm_instructions.specs.Operands.{back_of, front_of, is_last}
+use Rattle.asm_tokens.specs.declared.reader.Placed.{Placed}
+use Rattle.asm_program.specs.declared.data.Datum.{Datum}
+use Rattle.asm_program.specs.Moves.{with_value}
+
+-- the low bytes of a value below a limit, or of a negative one that is not lower than minus half of it
+abbrev pub low_of : (value limit left : ℕ) → Result ℕ Fault
+low_of value limit left =
+    if nat_lt value limit || nat_lt ((value + limit / 2) % 2 ^ 64) (limit / 2) then Ok (value % limit)
+    else wrong_at OutOfRange left
+
+abbrev pub sized : (size left value : ℕ) → Result ℕ Fault
+sized size left value =
+    if size == 1 then low_of value (2 ^ 8) left
+    else (if size == 2 then low_of value (2 ^ 16) left
+    else (if size == 4 then low_of value (2 ^ 32) left
+    else Ok value))
+
+-- a number of so many bytes
+abbrev pub number_of : Context → (size left : ℕ) → List Placed → Result ℕ Fault
+number_of scope size left tokens = with_value (value_of scope tokens) (sized size left)
+
+abbrev pub numbers_by : (size at : ℕ) → List Datum → List Placed → (later : (at : ℕ) → List Datum → List Placed → Result (List Datum) Fault) → Result ℕ Fault → Result (List Datum) Fault
+numbers_by size at before tokens later (Err fault) = Err fault
+numbers_by size at before tokens later (Ok value) =
+    let more = before ++ record { at = at; size = size; value = value } ∷ [] in
+    if is_last tokens then Ok more else later ((at + size) % 2 ^ 64) more (back_of tokens)
+
+-- Numbers with commas between them, one behind the other. (There are no more than tokens.)
+abbrev pub numbers_in : Context → (size left n at : ℕ) → List Datum → List Placed → Result (List Datum) Fault
+numbers_in scope size left zero at before tokens = Ok before
+numbers_in scope size left (suc n) at before tokens =
+    numbers_by size at before tokens (numbers_in scope size left n) (number_of scope size left (front_of tokens))

@@ -1,0 +1,59 @@
+-- How far directives and instructions reach (GNU as, .org, .align, .balign, .space; RISC-V-Directives).
+use Rattle.std.specs.Prelude.{ℕ, ◌+◌, ◌-◌, ◌*◌, ◌%◌, ◌^◌, nat_le, nat_lt, ◌||◌, ◌==◌, if◌then◌else◌, List, [], ◌∷◌, Result, Ok, Err}
+use Rattle.asm_expressions.specs.declared.faults.Fault.{Fault}
+use Rattle.asm_expressions.specs.declared.faults.Wrong.TheVariants.{Backwards, OutOfRange}
+use Rattle.asm_expressions.specs.Symbols.{Context}
+use Rattle.asm_expressions.specs.Values.{value_of, wrong_at}
+use Rattle.asm_instructions.specs.Sizes.{count_of}
+use Rattle.asm_mnemonics.specs.declared.forms.OperandForm.{OperandForm}
+use Rattle.asm_tokens.specs.declared.reader.Placed.{Placed}
+use Rattle.asm_tokens.specs.Statements.{is_comma}
+use Rattle.asm_tokens.specs.Tokens.{lexeme_of}
+use Rattle.asm_program.specs.declared.directives.Directive.{Directive}
+use Rattle.asm_program.specs.declared.directives.Directive.TheVariants.{Equ, Org, Data, Space, Align, Balign, Passed}
+
+-- the address behind so many pieces of a size, within the address space
+abbrev pub moved_by : (here size count left : ℕ) → Result ℕ Fault
+moved_by here size count left =
+    if nat_lt (here + size * count) (2 ^ 64) then Ok (here + size * count) else wrong_at Backwards left
+
+-- the next multiple; of 0 the address itself
+abbrev pub up_to : (here size left : ℕ) → Result ℕ Fault
+up_to here size left =
+    if (size == 0) || (here % size == 0) then Ok here else moved_by here 1 (size - here % size) left
+
+-- what goes on with a value that was read
+abbrev pub with_value : {A : Type 0} → Result ℕ Fault → (ℕ → Result A Fault) → Result A Fault
+with_value (Err fault) then_by = Err fault
+with_value (Ok value) then_by = then_by value
+
+abbrev pub commas : List Placed → ℕ
+commas [] = 0
+commas (placed ∷ tokens) = (if is_comma (lexeme_of placed.token) then 1 else 0) + commas tokens
+
+-- how many numbers there are: one more than commas, or none
+abbrev pub number_count : List Placed → ℕ
+number_count [] = 0
+number_count (placed ∷ tokens) = commas (placed ∷ tokens) + 1
+
+-- an address that isn't lower than where it stands
+abbrev pub behind_org : Context → (left : ℕ) → List Placed → Result ℕ Fault
+behind_org scope left operands =
+    with_value (value_of scope operands) (λ to. if nat_lt to scope.here then wrong_at Backwards left else Ok to)
+
+-- The address behind a directive that moves on.
+abbrev pub behind_directive : Context → Directive → (left : ℕ) → List Placed → Result ℕ Fault
+behind_directive scope Equ left operands = Ok scope.here
+behind_directive scope Passed left operands = Ok scope.here
+behind_directive scope Org left operands = behind_org scope left operands
+behind_directive scope (Data size) left operands = moved_by scope.here size (number_count operands) left
+behind_directive scope Space left operands = with_value (value_of scope operands) (λ size. moved_by scope.here 1 size left)
+behind_directive scope Align left operands =
+    with_value (value_of scope operands)
+    (λ bits. if nat_le 64 bits then wrong_at OutOfRange left else up_to scope.here (2 ^ bits) left)
+behind_directive scope Balign left operands = with_value (value_of scope operands) (λ size. up_to scope.here size left)
+
+-- The address behind an instruction, which takes 4 bytes for each that the assembler writes.
+abbrev pub behind_instruction : Context → OperandForm → (left : ℕ) → List Placed → Result ℕ Fault
+behind_instruction scope form left operands =
+    with_value (count_of scope form operands) (λ count. moved_by scope.here 4 count left)

@@ -1,0 +1,113 @@
+//! How far directives and instructions reach.
+ghost use Rattle.std.specs.Prelude.{◌≡◌, ◌≤◌, length};
+ghost use Rattle.asm_expressions.specs.Symbols.{context_of};
+ghost use Rattle.asm_program.specs.Moves.{behind_directive, behind_instruction, behind_org, commas, moved_by, number_count, up_to};
+
+use crate::directives::Directive;
+use crate::forms::fault;
+use asm_expressions::{Fault, Scope, Wrong, value_of};
+use asm_instructions::count_of;
+use asm_mnemonics::OperandForm;
+use asm_tokens::{Mark, Placed, Token};
+
+/// The address behind an instruction; each has 4 bytes.
+pub(crate) fn behind_instruction(
+    scope: &Scope<'_, '_>,
+    form: OperandForm,
+    left: usize,
+    operands: &[Placed<'_>],
+) -> Result<u64, Fault>
+    ensures { result ≡ behind_instruction (context_of scope.now) form left operands.now }
+{
+    let count = count_of(scope, form, operands)?;
+    moved_by(scope.here, 4, count, left)
+}
+
+/// The address behind a directive that moves on.
+pub(crate) fn behind_directive(
+    scope: &Scope<'_, '_>,
+    directive: Directive,
+    left: usize,
+    operands: &[Placed<'_>],
+) -> Result<u64, Fault>
+    ensures { result ≡ behind_directive (context_of scope.now) directive left operands.now }
+{
+    match directive {
+        Directive::Equ | Directive::Passed => Ok(scope.here),
+        Directive::Org => behind_org(scope, left, operands),
+        Directive::Data(size) => { moved_by(scope.here, size, number_count(operands), left) }
+        Directive::Space => {
+            let size = value_of(scope, operands)?;
+            moved_by(scope.here, 1, size, left)
+        }
+        Directive::Align => {
+            let bits = value_of(scope, operands)?;
+            if bits >= 64 {
+                return Err(fault(Wrong::OutOfRange, left));
+            }
+            up_to(scope.here, 1 << bits, left)
+        }
+        Directive::Balign => {
+            let size = value_of(scope, operands)?;
+            up_to(scope.here, size, left)
+        }
+    }
+}
+
+/// `.org ADDRESS`, which doesn't go back.
+fn behind_org(scope: &Scope<'_, '_>, left: usize, operands: &[Placed<'_>]) -> Result<u64, Fault>
+    ensures { result ≡ behind_org (context_of scope.now) left operands.now }
+{
+    let to = value_of(scope, operands)?;
+    if to < scope.here {
+        return Err(fault(Wrong::Backwards, left));
+    }
+    Ok(to)
+}
+
+/// The address behind so many pieces of this size.
+fn moved_by(here: u64, size: u64, count: u64, left: usize) -> Result<u64, Fault>
+    ensures { result ≡ moved_by here size count left }
+{
+    match size.checked_mul(count) {
+        Some(bytes) => match here.checked_add(bytes) {
+            Some(next) => Ok(next),
+            None => Err(fault(Wrong::Backwards, left)),
+        },
+        None => Err(fault(Wrong::Backwards, left)),
+    }
+}
+
+/// The next multiple; of 0 the address itself.
+fn up_to(here: u64, size: u64, left: usize) -> Result<u64, Fault>
+    ensures { result ≡ up_to here size left }
+{
+    if size == 0 || here % size == 0 {
+        return Ok(here);
+    }
+    moved_by(here, 1, size - here % size, left)
+}
+
+/// How many numbers there are: one more than commas, or none.
+fn number_count(operands: &[Placed<'_>]) -> u64
+    ensures { result ≡ number_count operands.now }
+{
+    if operands.is_empty() {
+        return 0;
+    }
+    commas(operands) + 1
+}
+
+/// How many commas there are.
+fn commas(operands: &[Placed<'_>]) -> u64
+    ensures commas { result ≡ commas operands.now }
+    ensures few { result ≤ length operands.now }
+{
+    let mut count = 0;
+    for placed in operands {
+        if matches!(placed.token, Token::Mark(Mark::Comma)) {
+            count += 1;
+        }
+    }
+    count
+}

@@ -1,0 +1,77 @@
+//! The parts of a program: labels, and statements.
+ghost use Rattle.std.specs.Prelude.{◌≡◌, ◌<◌, ◌≤◌, length, map, IfOk};
+ghost use Rattle.asm_program.specs.Parts.{behind_end, cut, end_of, part_of, parts_in};
+
+use asm_tokens::{Mark, Placed, Token};
+use std::alloc::{AllocError, Global};
+
+/// A label with its `:`, or the tokens of a statement.
+#[derive(Clone, Copy, Debug)]
+pub(crate) struct Part<'t, 'a> {
+    /// Its tokens.
+    pub tokens: &'t [Placed<'a>],
+    /// The number of bytes from its end to the end of the text.
+    pub end: usize,
+}
+
+/// The parts of a program, in order.
+#[tactic(auto, using(crate::proofs::More::parts_more))]
+pub(crate) fn parts<'t, 'a>(
+    alloc: Global,
+    tokens: &'t [Placed<'a>],
+) -> Result<Vec<Part<'t, 'a>>, AllocError>
+    ensures { IfOk result (λ parts. map part_of parts.items ≡ parts_in (length tokens.now) tokens.now) }
+{
+    let mut parts = Vec::new(alloc);
+    let mut rest = tokens;
+    let mut most = tokens.len();
+    'parts: while most > 0 {
+        if rest.is_empty() {
+            return Ok(parts);
+        }
+        let n = cut(rest);
+        let (front, behind) = rest.split_at(n);
+        parts.push(Part {
+            tokens: front,
+            end: end_of(behind),
+        })?;
+        rest = behind_end(behind);
+        most -= 1;
+    }
+    Ok(parts)
+}
+
+/// The number of tokens of the first part: up to the end of a statement, or with the `:` of a label.
+fn cut(tokens: &[Placed<'_>]) -> usize
+    ensures cut { result ≡ cut tokens.now }
+    ensures within { result ≤ length tokens.now }
+{
+    for (i, placed) in tokens.iter().enumerate() {
+        match placed.token {
+            Token::End => return i,
+            Token::Mark(Mark::Colon) => return i + 1,
+            _ => {}
+        }
+    }
+    tokens.len()
+}
+
+/// The place of the first token, or of the end of the text.
+fn end_of(tokens: &[Placed<'_>]) -> usize
+    ensures { result ≡ end_of tokens.now }
+{
+    match tokens.split_first() {
+        Some((first, _)) => first.left,
+        None => 0,
+    }
+}
+
+/// The tokens behind the end of a statement, if they begin with one.
+fn behind_end<'t, 'a>(tokens: &'t [Placed<'a>]) -> &'t [Placed<'a>]
+    ensures { result.now ≡ behind_end tokens.now }
+{
+    match tokens.split_first() {
+        Some((first, behind)) if matches!(first.token, Token::End) => behind,
+        _ => tokens,
+    }
+}
