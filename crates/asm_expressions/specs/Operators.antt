@@ -1,8 +1,8 @@
 -- Operators between two values (GNU as, Infix Operators).
 use Rattle.std.specs.Prelude.{ℕ, nat_le, Bool, true, false, ◌&&◌, ◌==◌, if◌then◌else◌, List, [], ◌∷◌, Option, Some, None, option_and_then, option_map}
 use Rattle.asm_tokens.specs.declared.marks.Mark.TheVariants as marks
-use Rattle.asm_tokens.specs.declared.reader.Placed.{Placed}
-use Rattle.asm_tokens.specs.Tokens.{Lexeme, lexeme_of}
+use Rattle.asm_tokens.specs.Readings.{TokenSpot, spots_of}
+use Rattle.asm_tokens.specs.Tokens.{Lexeme}
 use Rattle.asm_tokens.specs.Tokens.Lexeme.{Mark}
 use Rattle.rv64_alu.specs.declared.alu.AluOp.{AluOp}
 use Rattle.rv64_alu.specs.declared.alu.AluOp.TheVariants as alu
@@ -85,12 +85,12 @@ closes Right (Mark marks.Greater) = true
 closes operator lexeme = false
 
 -- the tokens behind the second mark of a shift
-abbrev pub behind_mark : Operator → List Placed → Option (List Placed)
+abbrev pub behind_mark : Operator → List TokenSpot → Option (List TokenSpot)
 behind_mark shift [] = None
-behind_mark shift (placed ∷ rest) = if closes shift (lexeme_of placed.token) then Some rest else None
+behind_mark shift (placed ∷ rest) = if closes shift placed.lexeme then Some rest else None
 
 -- the tokens behind an operator, whose first mark stands before these
-abbrev pub behind_operator : Operator → List Placed → Option (List Placed)
+abbrev pub behind_operator : Operator → List TokenSpot → Option (List TokenSpot)
 behind_operator Left behind = behind_mark Left behind
 behind_operator Right behind = behind_mark Right behind
 behind_operator operator behind = Some behind
@@ -99,20 +99,20 @@ behind_operator operator behind = Some behind
 pub record Junction : Type 0 where
   pub operator : Operator
   pub left : ℕ
-  pub rest : List Placed
+  pub rest : List TokenSpot
 
 abbrev pub joint_of : Joint → Junction
-joint_of joint = record { operator = joint.operator; left = joint.left; rest = joint.rest.now }
+joint_of joint = record { operator = joint.operator; left = joint.left; rest = spots_of joint.rest.now }
 
-abbrev pub junction : (left : ℕ) → Operator → List Placed → Junction
+abbrev pub junction : (left : ℕ) → Operator → List TokenSpot → Junction
 junction left operator rest = record { operator = operator; left = left; rest = rest }
 
-abbrev pub joint_by : Level → (left : ℕ) → (behind : List Placed) → Operator → Option Junction
+abbrev pub joint_by : Level → (left : ℕ) → (behind : List TokenSpot) → Operator → Option Junction
 joint_by level left behind operator =
     if stands_at level operator then option_map (junction left operator) (behind_operator operator behind) else None
 
 -- The operator of a level that tokens begin with.
-abbrev pub joint_in : Level → List Placed → Option Junction
+abbrev pub joint_in : Level → List TokenSpot → Option Junction
 joint_in level [] = None
 joint_in level (first ∷ behind) =
-    option_and_then (joint_by level first.left behind) (operator_of (lexeme_of first.token))
+    option_and_then (joint_by level first.left behind) (operator_of first.lexeme)

@@ -2,10 +2,10 @@
 use Rattle.std.specs.Prelude.{ℕ, zero, suc, ◌+◌, ◌-◌, ◌^◌, ◌%◌, if◌then◌else◌, List, [], ◌∷◌, codes, length, Option, Some, None, Result, Ok, Err, option_map}
 use Rattle.std.specs.Str.{bytes_eq}
 use Rattle.asm_tokens.specs.declared.marks.Mark.TheVariants as marks
-use Rattle.asm_tokens.specs.declared.reader.Placed.{Placed}
+use Rattle.asm_tokens.specs.Readings.{TokenSpot, spots_of}
 use Rattle.asm_tokens.specs.Terms.{TermMeaning, word_term}
 use Rattle.asm_tokens.specs.Terms.TermMeaning.{IsNumber, IsName}
-use Rattle.asm_tokens.specs.Tokens.{Lexeme, lexeme_of}
+use Rattle.asm_tokens.specs.Tokens.{Lexeme}
 use Rattle.asm_tokens.specs.Tokens.Lexeme.{Mark, Word}
 use Rattle.asm_expressions.specs.declared.faults.Fault.{Fault}
 use Rattle.asm_expressions.specs.declared.faults.Wrong.{Wrong}
@@ -24,9 +24,9 @@ use Rattle.asm_expressions.specs.Symbols.{Context, symbol_value}
 
 pub record Reading : Type 0 where
   pub value : ℕ
-  pub rest : List Placed
+  pub rest : List TokenSpot
 
-abbrev pub reads : (value : ℕ) → List Placed → Reading
+abbrev pub reads : (value : ℕ) → List TokenSpot → Reading
 reads value rest = record { value = value; rest = rest }
 
 -- an expression's value and what stands behind it, or its first fault
@@ -34,14 +34,14 @@ abbrev pub Outcome : Type 0
 Outcome = Result Reading Fault
 
 abbrev pub read_as : Result Found Fault → Outcome
-read_as (Ok found) = Ok (reads found.value found.rest.now)
+read_as (Ok found) = Ok (reads found.value (spots_of found.rest.now))
 read_as (Err fault) = Err fault
 
 abbrev pub wrong_at : {A : Type 0} → Wrong → (left : ℕ) → Result A Fault
 wrong_at wrong left = Err (record { wrong = wrong; left = left })
 
 -- the place of the first token, or of the end of the statement
-abbrev pub left_or_end : Context → List Placed → ℕ
+abbrev pub left_or_end : Context → List TokenSpot → ℕ
 left_or_end scope [] = scope.end
 left_or_end scope (first ∷ behind) = first.left
 
@@ -66,25 +66,25 @@ word_value scope word left =
 -- ---- parentheses
 
 -- the tokens behind a closing parenthesis
-abbrev pub closed_by : Lexeme → List Placed → Option (List Placed)
+abbrev pub closed_by : Lexeme → List TokenSpot → Option (List TokenSpot)
 closed_by (Mark marks.Close) rest = Some rest
 closed_by lexeme rest = None
 
-abbrev pub closed : List Placed → Option (List Placed)
+abbrev pub closed : List TokenSpot → Option (List TokenSpot)
 closed [] = None
-closed (first ∷ behind) = closed_by (lexeme_of first.token) behind
+closed (first ∷ behind) = closed_by first.lexeme behind
 
-abbrev pub named_part : Lexeme → Lexeme → List Placed → Option (Part × List Placed)
+abbrev pub named_part : Lexeme → Lexeme → List TokenSpot → Option (Part × List TokenSpot)
 named_part (Word name) (Mark marks.Open) inside = option_map (λ part. (part, inside)) (part_named name)
 named_part first second inside = None
 
 -- the part that is named behind a `%`, and the tokens behind its opening parenthesis
-abbrev pub part_behind : List Placed → Option (Part × List Placed)
+abbrev pub part_behind : List TokenSpot → Option (Part × List TokenSpot)
 part_behind [] = None
 part_behind (first ∷ []) = None
-part_behind (first ∷ second ∷ inside) = named_part (lexeme_of first.token) (lexeme_of second.token) inside
+part_behind (first ∷ second ∷ inside) = named_part first.lexeme second.lexeme inside
 
-abbrev pub closed_value : Context → Part → Reading → Option (List Placed) → Outcome
+abbrev pub closed_value : Context → Part → Reading → Option (List TokenSpot) → Outcome
 closed_value scope part found None = wrong_at OpenParenthesis (left_or_end scope found.rest)
 closed_value scope part found (Some rest) = Ok (reads (part_of part found.value) rest)
 
@@ -93,10 +93,10 @@ closes_value scope part (Err fault) = Err fault
 closes_value scope part (Ok found) = closed_value scope part found (closed found.rest)
 
 -- a part of the value of an expression, whose opening parenthesis stands before the tokens
-abbrev pub bracketed : Context → (value : Level → List Placed → Outcome) → Part → List Placed → Outcome
+abbrev pub bracketed : Context → (value : Level → List TokenSpot → Outcome) → Part → List TokenSpot → Outcome
 bracketed scope value part tokens = closes_value scope part (value Sums tokens)
 
-abbrev pub part_value : Context → (value : Level → List Placed → Outcome) → (left : ℕ) → Option (Part × List Placed) → Outcome
+abbrev pub part_value : Context → (value : Level → List TokenSpot → Outcome) → (left : ℕ) → Option (Part × List TokenSpot) → Outcome
 part_value scope value left None = wrong_at UnknownFunction left
 part_value scope value left (Some found) = bracketed scope value found.0 found.1
 
@@ -113,12 +113,12 @@ negated value = (0 + (2 ^ 64 - value)) % 2 ^ 64
 abbrev pub inverted : ℕ → ℕ
 inverted value = 2 ^ 64 - 1 - value
 
-abbrev pub worded : List Placed → Result ℕ Fault → Outcome
+abbrev pub worded : List TokenSpot → Result ℕ Fault → Outcome
 worded rest (Err fault) = Err fault
 worded rest (Ok value) = Ok (reads value rest)
 
 -- An operand by its first token: a word, a sign and an operand, an expression in parentheses, or a part of one.
-abbrev pub operand_by : Context → (value : Level → List Placed → Outcome) → Lexeme → (left : ℕ) → (behind : List Placed) → Outcome
+abbrev pub operand_by : Context → (value : Level → List TokenSpot → Outcome) → Lexeme → (left : ℕ) → (behind : List TokenSpot) → Outcome
 operand_by scope value (Word word) left behind = worded behind (word_value scope word left)
 operand_by scope value (Mark marks.Plus) left behind = value Operand behind
 operand_by scope value (Mark marks.Minus) left behind = turned negated (value Operand behind)
@@ -127,9 +127,9 @@ operand_by scope value (Mark marks.Open) left behind = bracketed scope value Who
 operand_by scope value (Mark marks.Percent) left behind = part_value scope value left (part_behind behind)
 operand_by scope value lexeme left behind = wrong_at NoValue left
 
-abbrev pub alone : Context → (value : Level → List Placed → Outcome) → List Placed → Outcome
+abbrev pub alone : Context → (value : Level → List TokenSpot → Outcome) → List TokenSpot → Outcome
 alone scope value [] = wrong_at NoValue scope.end
-alone scope value (first ∷ behind) = operand_by scope value (lexeme_of first.token) first.left behind
+alone scope value (first ∷ behind) = operand_by scope value first.lexeme first.left behind
 
 -- ---- operators
 
@@ -149,21 +149,21 @@ joined_to at first (Err fault) later = Err fault
 joined_to at first (Ok second) later =
     goes_on later (worded second.rest (applied at.operator at.left first second.value))
 
-abbrev pub joined_by : (operand : List Placed → Outcome) → Option Junction → Reading → (later : Reading → Outcome) → Outcome
+abbrev pub joined_by : (operand : List TokenSpot → Outcome) → Option Junction → Reading → (later : Reading → Outcome) → Outcome
 joined_by operand None found later = Ok found
 joined_by operand (Some at) found later = joined_to at found.value (operand at.rest) later
 
 -- the value behind at most n operators of a level, each with an operand
-abbrev pub joins : (operand : List Placed → Outcome) → Level → (n : ℕ) → Reading → Outcome
+abbrev pub joins : (operand : List TokenSpot → Outcome) → Level → (n : ℕ) → Reading → Outcome
 joins operand level zero found = Ok found
 joins operand level (suc n) found = joined_by operand (joint_in level found.rest) found (joins operand level n)
 
-abbrev pub joined_from : (operand : List Placed → Outcome) → Level → (n : ℕ) → Outcome → Outcome
+abbrev pub joined_from : (operand : List TokenSpot → Outcome) → Level → (n : ℕ) → Outcome → Outcome
 joined_from operand level n (Err fault) = Err fault
 joined_from operand level n (Ok found) = joins operand level n found
 
 -- operands with operators of a level between them, from left to right; there are no more than tokens
-abbrev pub joined : (operand : List Placed → Outcome) → Level → List Placed → Outcome
+abbrev pub joined : (operand : List TokenSpot → Outcome) → Level → List TokenSpot → Outcome
 joined operand level tokens = joined_from operand level (length tokens) (operand tokens)
 
 -- ---- levels
@@ -175,18 +175,18 @@ inner_level Masks = Some Products
 inner_level Products = Some Operand
 inner_level Operand = None
 
-abbrev pub value_by : Context → (value : Level → List Placed → Outcome) → Level → Option Level → List Placed → Outcome
+abbrev pub value_by : Context → (value : Level → List TokenSpot → Outcome) → Level → Option Level → List TokenSpot → Outcome
 value_by scope value level None tokens = alone scope value tokens
 value_by scope value level (Some inner) tokens = joined (value inner) level tokens
 
 -- The value of the expression of a level that tokens begin with, at this depth of levels, signs and parentheses.
-abbrev pub value_at : Context → (depth : ℕ) → Level → List Placed → Outcome
+abbrev pub value_at : Context → (depth : ℕ) → Level → List TokenSpot → Outcome
 value_at scope zero level tokens = wrong_at TooDeep (left_or_end scope tokens)
 value_at scope (suc depth) level tokens = value_by scope (value_at scope depth) level (inner_level level) tokens
 
 -- ---- expressions
 
-abbrev pub whole_by : (value : ℕ) → List Placed → Result ℕ Fault
+abbrev pub whole_by : (value : ℕ) → List TokenSpot → Result ℕ Fault
 whole_by value [] = Ok value
 whole_by value (first ∷ behind) = wrong_at Behind first.left
 
@@ -199,5 +199,5 @@ unfoldable pub deepest : ℕ
 deepest = 256
 
 -- The value of the expression that all of these tokens are.
-abbrev pub value_of : Context → List Placed → Result ℕ Fault
+abbrev pub value_of : Context → List TokenSpot → Result ℕ Fault
 value_of scope tokens = whole (value_at scope deepest Sums tokens)

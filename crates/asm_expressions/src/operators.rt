@@ -1,4 +1,5 @@
 //! Operators between two values.
+ghost use Rattle.asm_tokens.specs.Readings.{spots_of};
 ghost use Rattle.std.specs.Prelude.{◌≡◌, option_map};
 ghost use Rattle.asm_expressions.specs.Operators.{alu_of, behind_operator, behind_mark, combined, is_division, is_shift, joint_in, joint_of, operator_of, stands_at};
 ghost use Rattle.asm_tokens.specs.Tokens.{lexeme_of};
@@ -119,7 +120,7 @@ impl Operator {
 
 /// The operator of this level that the tokens begin with, if they begin with one.
 pub(crate) fn next_joint<'t, 'a>(level: Level, tokens: &'t [Placed<'a>]) -> Option<Joint<'t, 'a>>
-    ensures { option_map joint_of result ≡ joint_in level tokens.now }
+    ensures { option_map joint_of result ≡ joint_in level (spots_of tokens.now) }
 {
     let (first, behind) = tokens.split_first()?;
     let operator = operator_of(first.token)?;
@@ -155,7 +156,7 @@ fn operator_of(token: Token<'_>) -> Option<Operator>
 
 /// The tokens behind an operator; `behind` stands behind its first mark, and a shift has two.
 fn behind_operator<'t, 'a>(operator: Operator, behind: &'t [Placed<'a>]) -> Option<&'t [Placed<'a>]>
-    ensures { option_map (λ rest. rest.now) result ≡ behind_operator operator behind.now }
+    ensures { option_map (λ rest. spots_of rest.now) result ≡ behind_operator operator (spots_of behind.now) }
 {
     match operator {
         Operator::Left => behind_mark(Operator::Left, behind),
@@ -166,7 +167,7 @@ fn behind_operator<'t, 'a>(operator: Operator, behind: &'t [Placed<'a>]) -> Opti
 
 /// The tokens behind the first one, if it is the mark of this shift.
 fn behind_mark<'t, 'a>(shift: Operator, tokens: &'t [Placed<'a>]) -> Option<&'t [Placed<'a>]>
-    ensures { option_map (λ rest. rest.now) result ≡ behind_mark shift tokens.now }
+    ensures { option_map (λ rest. spots_of rest.now) result ≡ behind_mark shift (spots_of tokens.now) }
 {
     let (first, behind) = tokens.split_first()?;
     match (shift, first.token) {

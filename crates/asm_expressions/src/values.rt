@@ -1,4 +1,5 @@
 //! Values of expressions.
+ghost use Rattle.asm_tokens.specs.Readings.{spots_of};
 ghost use Rattle.std.specs.Prelude.{◌≡◌, option_map};
 ghost use Rattle.asm_expressions.specs.Symbols.{context_of};
 ghost use Rattle.asm_expressions.specs.Values.{alone, applied, bracketed, closed, inner_level, joined, left_or_end, name_value, part_behind, read_as, value_at, value_of, whole, word_value};
@@ -25,7 +26,7 @@ const DEEPEST: u32 = 256;
 ///
 /// Its first fault.
 pub fn value_of(scope: &Scope<'_, '_>, tokens: &[Placed<'_>]) -> Result<u64, Fault>
-    ensures { result ≡ value_of (context_of scope.now) tokens.now }
+    ensures { result ≡ value_of (context_of scope.now) (spots_of tokens.now) }
 {
     whole(value_at(scope, DEEPEST, Level::Sums, tokens))
 }
@@ -50,7 +51,7 @@ fn value_at<'t, 'a>(
     level: Level,
     tokens: &'t [Placed<'a>],
 ) -> Result<Found<'t, 'a>, Fault>
-    ensures { read_as result ≡ value_at (context_of scope.now) depth level tokens.now }
+    ensures { read_as result ≡ value_at (context_of scope.now) depth level (spots_of tokens.now) }
 {
     if depth == 0 {
         return Err(fault(Wrong::TooDeep, left_or_end(scope, tokens)));
@@ -63,7 +64,7 @@ fn value_at<'t, 'a>(
 
 /// Operands of the inner level, with operators of this one between them, from left to right.
 #[cycle(values)]
-#[tactic(auto, using(crate::proofs::Depth::joins_more))]
+#[tactic(auto, using(crate::proofs::Depth::joins_more, crate::proofs::Depth::spots_length))]
 fn joined<'t, 'a>(
     scope: &Scope<'_, '_>,
     depth: u32,
@@ -71,7 +72,7 @@ fn joined<'t, 'a>(
     inner: Level,
     tokens: &'t [Placed<'a>],
 ) -> Result<Found<'t, 'a>, Fault>
-    ensures { read_as result ≡ joined (value_at (context_of scope.now) depth inner) level tokens.now }
+    ensures { read_as result ≡ joined (value_at (context_of scope.now) depth inner) level (spots_of tokens.now) }
 {
     let mut found = value_at(scope, depth, inner, tokens)?;
     let mut left = tokens.len();
@@ -97,7 +98,7 @@ fn alone<'t, 'a>(
     depth: u32,
     tokens: &'t [Placed<'a>],
 ) -> Result<Found<'t, 'a>, Fault>
-    ensures { read_as result ≡ alone (context_of scope.now) (value_at (context_of scope.now) depth) tokens.now }
+    ensures { read_as result ≡ alone (context_of scope.now) (value_at (context_of scope.now) depth) (spots_of tokens.now) }
 {
     let Some((first, behind)) = tokens.split_first() else {
         return Err(fault(Wrong::NoValue, scope.end));
@@ -142,7 +143,7 @@ fn bracketed<'t, 'a>(
     part: Part,
     tokens: &'t [Placed<'a>],
 ) -> Result<Found<'t, 'a>, Fault>
-    ensures { read_as result ≡ bracketed (context_of scope.now) (value_at (context_of scope.now) depth) part tokens.now }
+    ensures { read_as result ≡ bracketed (context_of scope.now) (value_at (context_of scope.now) depth) part (spots_of tokens.now) }
 {
     let found = value_at(scope, depth, Level::Sums, tokens)?;
     match closed(found.rest) {
@@ -163,7 +164,7 @@ fn fault(wrong: Wrong, left: usize) -> Fault
 
 /// The place of the first token, or of the end of the statement.
 fn left_or_end(scope: &Scope<'_, '_>, tokens: &[Placed<'_>]) -> usize
-    ensures { result ≡ left_or_end (context_of scope.now) tokens.now }
+    ensures { result ≡ left_or_end (context_of scope.now) (spots_of tokens.now) }
 {
     match tokens.split_first() {
         Some((first, _)) => first.left,
@@ -195,7 +196,7 @@ fn applied(operator: Operator, left: usize, first: u64, second: u64) -> Result<u
 
 /// The part that is named behind a `%`, and the tokens behind its opening parenthesis.
 fn part_behind<'t, 'a>(tokens: &'t [Placed<'a>]) -> Option<(Part, &'t [Placed<'a>])>
-    ensures { option_map (λ found. (found.0, found.1.now)) result ≡ part_behind tokens.now }
+    ensures { option_map (λ found. (found.0, spots_of found.1.now)) result ≡ part_behind (spots_of tokens.now) }
 {
     let (first, behind) = tokens.split_first()?;
     let (second, inside) = behind.split_first()?;
@@ -207,7 +208,7 @@ fn part_behind<'t, 'a>(tokens: &'t [Placed<'a>]) -> Option<(Part, &'t [Placed<'a
 
 /// The tokens behind a closing parenthesis.
 fn closed<'t, 'a>(tokens: &'t [Placed<'a>]) -> Option<&'t [Placed<'a>]>
-    ensures { option_map (λ rest. rest.now) result ≡ closed tokens.now }
+    ensures { option_map (λ rest. spots_of rest.now) result ≡ closed (spots_of tokens.now) }
 {
     let (first, behind) = tokens.split_first()?;
     match first.token {

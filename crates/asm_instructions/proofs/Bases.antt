@@ -1,13 +1,25 @@
--- One token more without a base.
-use Rattle.std.proofs.Common.{◌≡◌, ℕ, zero, suc, ◌+◌, ◌<◌, List, [], ◌∷◌, length, drop, Option, None, ap, ◌∙◌, arith}
+-- One token more without a base, and operands of tokens.
+use Rattle.std.proofs.Common.{◌≡◌, ℕ, zero, suc, ◌+◌, ◌<◌, List, [], ◌∷◌, length, drop, take, Option, None, ap, sym, ◌∙◌, arith}
+use Rattle.std.proofs.lemmas.List.{drop-map, length-map, take-map}
 use Rattle.asm_tokens.specs.declared.reader.Placed.{Placed}
+use Rattle.asm_tokens.specs.Readings.{spots_of, token_spot}
 use Rattle.asm_instructions.specs.Operands.{base_behind, base_in, base_or}
 
-pub base_more : (tokens : List Placed) (at i : ℕ) → i < length tokens → base_behind (drop i tokens) ≡ None
-    → base_in at (drop i tokens) ≡ base_in (at + 1) (drop (i + 1) tokens)
+pub base_more : (tokens : List Placed) (at i : ℕ) → i < length tokens → base_behind (spots_of (drop i tokens)) ≡ None
+    → base_in at (spots_of (drop i tokens)) ≡ base_in (at + 1) (spots_of (drop (i + 1) tokens))
 base_more [] at i small none = absurd (omega arith)
 base_more (placed ∷ tokens) at zero small none =
-    ap (λ (found : Option ℕ). base_or at found (base_in (at + 1) tokens)) none
+    ap (λ (found : Option ℕ). base_or at found (base_in (at + 1) (spots_of tokens))) none
 base_more (placed ∷ tokens) at (suc i) small none =
     let next : suc (i + 1) ≡ suc i + 1 = omega arith in
-    base_more tokens at i (omega arith) none ∙ ap (λ (k : ℕ). base_in (at + 1) (drop k (placed ∷ tokens))) next
+    base_more tokens at i (omega arith) none
+    ∙ ap (λ (k : ℕ). base_in (at + 1) (spots_of (drop k (placed ∷ tokens)))) next
+
+pub spots_length : (tokens : List Placed) → length (spots_of tokens) ≡ length tokens
+spots_length tokens = length-map tokens token_spot
+
+pub spots_front : (n : ℕ) (tokens : List Placed) → spots_of (take n tokens) ≡ take n (spots_of tokens)
+spots_front n tokens = sym (take-map token_spot n tokens)
+
+pub spots_behind : (n : ℕ) (tokens : List Placed) → spots_of (drop n tokens) ≡ drop n (spots_of tokens)
+spots_behind n tokens = sym (drop-map token_spot n tokens)

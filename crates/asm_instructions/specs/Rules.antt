@@ -6,7 +6,7 @@ use Rattle.asm_expressions.specs.declared.faults.Wrong.TheVariants as wrongs
 use Rattle.asm_expressions.specs.Symbols.{Context}
 use Rattle.asm_mnemonics.specs.declared.forms.OperandForm.{OperandForm}
 use Rattle.asm_mnemonics.specs.declared.forms.OperandForm.TheVariants.{Registers, Immediate, Shift, Lui, Auipc, Load, StoreDouble, StoreNarrow, Amo, Fetch, Branch, TurnedBranch, BranchToZero, BranchFromZero, Jal, Jalr, Goto, JumpRegister, Return, Call, Tail, LoadAddress, LoadImmediate, Nop, Copy, Csr, CsrImmediate, ReadCsr, WriteCsr, WriteCsrImmediate, Fence, FenceTso, FenceI, SfenceVma, Wfi, Ecall, Ebreak, Sret, Refused}
-use Rattle.asm_tokens.specs.declared.reader.Placed.{Placed}
+use Rattle.asm_tokens.specs.Readings.{TokenSpot}
 use Rattle.rv64_instructions.specs.declared.instruction.Instruction.TheVariants as does
 use Rattle.asm_instructions.specs.declared.made.Made.{Made}
 use Rattle.asm_instructions.specs.declared.memory.StoreSize.TheVariants.{Double, Narrow}
@@ -78,10 +78,10 @@ ruled form here left (Err fault) = Err fault
 ruled form here left (Ok operands) = placed left (rule_by form here operands)
 
 -- FENCE takes sets of accesses, which aren't values
-abbrev pub made_by : Context → OperandForm → (left : ℕ) → List Placed → Result Made Fault
+abbrev pub made_by : Context → OperandForm → (left : ℕ) → List TokenSpot → Result Made Fault
 made_by scope Fence left tokens = placed left (fence_rule tokens)
 made_by scope form left tokens = ruled form scope.here left (operands_in scope (takes_csr form) tokens)
 
 -- What a form and its operands make; `left` is the place of the mnemonic.
-abbrev pub made_of : Context → OperandForm → (left : ℕ) → List Placed → Result Made Fault
+abbrev pub made_of : Context → OperandForm → (left : ℕ) → List TokenSpot → Result Made Fault
 made_of scope form left tokens = made_by scope form left tokens

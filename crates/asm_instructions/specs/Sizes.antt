@@ -5,7 +5,7 @@ use Rattle.asm_expressions.specs.Symbols.{Context}
 use Rattle.asm_expressions.specs.Values.{value_of}
 use Rattle.asm_mnemonics.specs.declared.forms.OperandForm.{OperandForm}
 use Rattle.asm_mnemonics.specs.declared.forms.OperandForm.TheVariants.{Call, Load, LoadAddress, LoadImmediate, StoreDouble, StoreNarrow, Tail}
-use Rattle.asm_tokens.specs.declared.reader.Placed.{Placed}
+use Rattle.asm_tokens.specs.Readings.{TokenSpot}
 use Rattle.asm_instructions.specs.Operands.{back_of, base_in}
 use Rattle.asm_instructions.specs.Ranges.{li_count}
 
@@ -14,7 +14,7 @@ counted (Err fault) = Err fault
 counted (Ok value) = Ok (li_count value)
 
 -- `li` takes as many as its value, the second operand, needs
-abbrev pub li_size : Context → List Placed → Result ℕ Fault
+abbrev pub li_size : Context → List TokenSpot → Result ℕ Fault
 li_size scope tokens = counted (value_of scope (back_of tokens))
 
 abbrev pub by_base : Option (ℕ × ℕ) → ℕ
@@ -22,11 +22,11 @@ by_base None = 2
 by_base (Some base) = 1
 
 -- an access at an offset from a register takes one, and one at a symbol two
-abbrev pub near_or_far : List Placed → ℕ
+abbrev pub near_or_far : List TokenSpot → ℕ
 near_or_far tokens = by_base (base_in 0 tokens)
 
 -- How many instructions a form and its operands take.
-abbrev pub count_of : Context → OperandForm → List Placed → Result ℕ Fault
+abbrev pub count_of : Context → OperandForm → List TokenSpot → Result ℕ Fault
 count_of scope LoadImmediate tokens = li_size scope tokens
 count_of scope LoadAddress tokens = Ok 2
 count_of scope Call tokens = Ok 2

@@ -3,9 +3,9 @@ use Rattle.std.specs.Prelude.{ℕ, nat_le, Bool, true, false, ◌&&◌, ◌||◌
 use Rattle.std.specs.List.{list_all}
 use Rattle.asm_expressions.specs.declared.faults.Wrong.{Wrong}
 use Rattle.asm_expressions.specs.declared.faults.Wrong.TheVariants.{BadOperands, OutOfRange, SipWrite}
-use Rattle.asm_tokens.specs.declared.reader.Placed.{Placed}
+use Rattle.asm_tokens.specs.Readings.{TokenSpot}
 use Rattle.asm_tokens.specs.Statements.{is_comma}
-use Rattle.asm_tokens.specs.Tokens.{Lexeme, lexeme_of}
+use Rattle.asm_tokens.specs.Tokens.{Lexeme}
 use Rattle.asm_tokens.specs.Tokens.Lexeme.{Word}
 use Rattle.rv64_instructions.specs.declared.csr.CsrHow.{CsrHow}
 use Rattle.rv64_instructions.specs.declared.csr.CsrHow.TheVariants.{Write, Set, Clear}
@@ -105,13 +105,13 @@ is_set (Word word) = list_all is_order word
 is_set lexeme = false
 
 -- whether tokens are two sets of accesses with a comma between them, or nothing
-abbrev pub is_fence : List Placed → Bool
+abbrev pub is_fence : List TokenSpot → Bool
 is_fence [] = true
 is_fence (first ∷ comma ∷ second ∷ []) =
-    is_set (lexeme_of first.token) && is_comma (lexeme_of comma.token) && is_set (lexeme_of second.token)
+    is_set first.lexeme && is_comma comma.lexeme && is_set second.lexeme
 is_fence tokens = false
 
-abbrev pub fence_rule : List Placed → Result Made Wrong
+abbrev pub fence_rule : List TokenSpot → Result Made Wrong
 fence_rule tokens = if is_fence tokens then Ok (made.One does.Fence) else Err BadOperands
 
 -- ---- instructions without operands

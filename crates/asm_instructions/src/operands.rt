@@ -1,4 +1,5 @@
 //! Operands of instructions, as their tokens say.
+ghost use Rattle.asm_tokens.specs.Readings.{spots_of};
 ghost use Rattle.std.specs.Prelude.{◌≡◌, ◌≤◌, IfSome, option_map, length};
 ghost use Rattle.asm_expressions.specs.Symbols.{context_of};
 ghost use Rattle.asm_instructions.specs.Operands.{back_of, base_behind, base_in, before_comma, expression, front_of, more_operands, offset_of, operand_in, operands_in, word_operand, word_of};
@@ -54,19 +55,20 @@ pub(crate) fn rule_operands(
     left: usize,
     tokens: &[Placed<'_>],
 ) -> Result<Made, Fault>
-    ensures { result ≡ ruled form scope.now.here left (operands_in (context_of scope.now) (takes_csr form) tokens.now) }
+    ensures { result ≡ ruled form scope.now.here left (operands_in (context_of scope.now) (takes_csr form) (spots_of tokens.now)) }
 {
     let operands = read_operands(scope, takes_csr(form), tokens)?;
     placed(left, rule(form, scope.here, &operands))
 }
 
 /// The operands that a statement's tokens behind the mnemonic are; there are commas between them.
+#[tactic(auto, using(crate::proofs::Bases::spots_length))]
 pub(crate) fn read_operands(
     scope: &Scope<'_, '_>,
     takes_csr: bool,
     tokens: &[Placed<'_>],
 ) -> Result<Operands, Fault>
-    ensures { result ≡ operands_in (context_of scope.now) takes_csr tokens.now }
+    ensures { result ≡ operands_in (context_of scope.now) takes_csr (spots_of tokens.now) }
 {
     if tokens.is_empty() {
         return Ok(Operands::Nothing);
@@ -80,13 +82,14 @@ pub(crate) fn read_operands(
 }
 
 /// The first operand, and those behind its comma.
+#[tactic(auto, using(crate::proofs::Bases::spots_length))]
 fn more_operands(
     scope: &Scope<'_, '_>,
     takes_csr: bool,
     first: Operand,
     tokens: &[Placed<'_>],
 ) -> Result<Operands, Fault>
-    ensures { result ≡ more_operands (context_of scope.now) takes_csr first tokens.now }
+    ensures { result ≡ more_operands (context_of scope.now) takes_csr first (spots_of tokens.now) }
 {
     let (front, rest) = first_operand(tokens);
     let second = read_operand(scope, takes_csr, front)?;
@@ -98,12 +101,13 @@ fn more_operands(
 }
 
 /// The operand that tokens are.
+#[tactic(auto, using(crate::proofs::Bases::spots_front))]
 fn read_operand(
     scope: &Scope<'_, '_>,
     takes_csr: bool,
     tokens: &[Placed<'_>],
 ) -> Result<Operand, Fault>
-    ensures { result ≡ operand_in (context_of scope.now) takes_csr tokens.now }
+    ensures { result ≡ operand_in (context_of scope.now) takes_csr (spots_of tokens.now) }
 {
     if let Some(named) = word_operand(takes_csr, tokens) {
         return Ok(named);
@@ -119,7 +123,7 @@ fn read_operand(
 
 /// The operand that one word is: a register, or a CSR where the instruction takes one.
 fn word_operand(takes_csr: bool, tokens: &[Placed<'_>]) -> Option<Operand>
-    ensures { result ≡ word_operand takes_csr tokens.now }
+    ensures { result ≡ word_operand takes_csr (spots_of tokens.now) }
 {
     let word = word_of(tokens)?;
     match register_number(word) {
@@ -131,7 +135,7 @@ fn word_operand(takes_csr: bool, tokens: &[Placed<'_>]) -> Option<Operand>
 
 /// The one word that tokens are.
 fn word_of<'a>(tokens: &[Placed<'a>]) -> Option<&'a [u8]>
-    ensures { option_map (λ word. word.now) result ≡ word_of tokens.now }
+    ensures { option_map (λ word. word.now) result ≡ word_of (spots_of tokens.now) }
 {
     match tokens {
         [only] => match only.token {
@@ -144,7 +148,7 @@ fn word_of<'a>(tokens: &[Placed<'a>]) -> Option<&'a [u8]>
 
 /// The value of an expression, as an operand.
 fn expression(scope: &Scope<'_, '_>, tokens: &[Placed<'_>]) -> Result<Operand, Fault>
-    ensures { result ≡ expression (context_of scope.now) tokens.now }
+    ensures { result ≡ expression (context_of scope.now) (spots_of tokens.now) }
 {
     let value = value_of(scope, tokens)?;
     Ok(Operand::Value(value))
@@ -152,7 +156,7 @@ fn expression(scope: &Scope<'_, '_>, tokens: &[Placed<'_>]) -> Result<Operand, F
 
 /// The offset before a base: no tokens are 0.
 fn offset_of(scope: &Scope<'_, '_>, tokens: &[Placed<'_>]) -> Result<u64, Fault>
-    ensures { result ≡ offset_of (context_of scope.now) tokens.now }
+    ensures { result ≡ offset_of (context_of scope.now) (spots_of tokens.now) }
 {
     if tokens.is_empty() {
         return Ok(0);
@@ -162,7 +166,7 @@ fn offset_of(scope: &Scope<'_, '_>, tokens: &[Placed<'_>]) -> Result<u64, Fault>
 
 /// The base that tokens end with, a register in parentheses, and the number of tokens before it.
 pub(crate) fn base(tokens: &[Placed<'_>]) -> Option<(usize, u8)>
-    ensures base { result ≡ base_in 0 tokens.now }
+    ensures base { result ≡ base_in 0 (spots_of tokens.now) }
     ensures within { IfSome result (λ found. found.0 ≤ length tokens.now) }
 {
     for i in 0..tokens.len() {
@@ -176,7 +180,7 @@ pub(crate) fn base(tokens: &[Placed<'_>]) -> Option<(usize, u8)>
 
 /// The register that these tokens are in parentheses.
 fn base_behind(tokens: &[Placed<'_>]) -> Option<u8>
-    ensures { result ≡ base_behind tokens.now }
+    ensures { result ≡ base_behind (spots_of tokens.now) }
 {
     match tokens {
         [open, name, close] => match (open.token, name.token, close.token) {
@@ -190,9 +194,10 @@ fn base_behind(tokens: &[Placed<'_>]) -> Option<u8>
 }
 
 /// The tokens of the first operand, and those behind its comma.
+#[tactic(auto, using(crate::proofs::Bases::spots_length, crate::proofs::Bases::spots_front, crate::proofs::Bases::spots_behind))]
 pub fn first_operand<'t, 'a>(tokens: &'t [Placed<'a>]) -> (&'t [Placed<'a>], &'t [Placed<'a>])
-    ensures front { result.0.now ≡ front_of tokens.now }
-    ensures back { result.1.now ≡ back_of tokens.now }
+    ensures front { spots_of result.0.now ≡ front_of (spots_of tokens.now) }
+    ensures back { spots_of result.1.now ≡ back_of (spots_of tokens.now) }
 {
     let n = before_comma(tokens);
     if n < tokens.len() {
@@ -204,7 +209,7 @@ pub fn first_operand<'t, 'a>(tokens: &'t [Placed<'a>]) -> (&'t [Placed<'a>], &'t
 
 /// The number of tokens before the first comma.
 fn before_comma(tokens: &[Placed<'_>]) -> usize
-    ensures before { result ≡ before_comma tokens.now }
+    ensures before { result ≡ before_comma (spots_of tokens.now) }
     ensures within { result ≤ length tokens.now }
 {
     for (i, placed) in tokens.iter().enumerate() {

@@ -1,4 +1,5 @@
 //! The rule of each form of operands.
+ghost use Rattle.asm_tokens.specs.Readings.{spots_of};
 ghost use Rattle.std.specs.Prelude.{◌≡◌};
 ghost use Rattle.asm_expressions.specs.Symbols.{context_of};
 ghost use Rattle.asm_instructions.specs.Rules.{made_of, placed, rule_by, takes_csr};
@@ -30,7 +31,7 @@ pub fn made_of(
     left: usize,
     tokens: &[Placed<'_>],
 ) -> Result<Made, Fault>
-    ensures { result ≡ made_of (context_of scope.now) form left tokens.now }
+    ensures { result ≡ made_of (context_of scope.now) form left (spots_of tokens.now) }
 {
     if let OperandForm::Fence = form {
         return placed(left, fence(tokens));

@@ -1,4 +1,5 @@
 //! How many instructions the assembler writes for one of the text.
+ghost use Rattle.asm_tokens.specs.Readings.{spots_of};
 ghost use Rattle.std.specs.Prelude.{◌≡◌};
 ghost use Rattle.asm_expressions.specs.Symbols.{context_of};
 ghost use Rattle.asm_instructions.specs.Sizes.{count_of, li_size, near_or_far};
@@ -19,7 +20,7 @@ pub fn count_of(
     form: OperandForm,
     tokens: &[Placed<'_>],
 ) -> Result<u64, Fault>
-    ensures { result ≡ count_of (context_of scope.now) form tokens.now }
+    ensures { result ≡ count_of (context_of scope.now) form (spots_of tokens.now) }
 {
     match form {
         OperandForm::LoadImmediate => li_size(scope, tokens),
@@ -33,7 +34,7 @@ pub fn count_of(
 
 /// How many instructions `li` takes for its value, the second operand.
 fn li_size(scope: &Scope<'_, '_>, tokens: &[Placed<'_>]) -> Result<u64, Fault>
-    ensures { result ≡ li_size (context_of scope.now) tokens.now }
+    ensures { result ≡ li_size (context_of scope.now) (spots_of tokens.now) }
 {
     let (_, value) = first_operand(tokens);
     let value = value_of(scope, value)?;
@@ -42,7 +43,7 @@ fn li_size(scope: &Scope<'_, '_>, tokens: &[Placed<'_>]) -> Result<u64, Fault>
 
 /// One instruction for an access at an offset from a register, and two for one at a symbol.
 fn near_or_far(tokens: &[Placed<'_>]) -> u64
-    ensures { result ≡ near_or_far tokens.now }
+    ensures { result ≡ near_or_far (spots_of tokens.now) }
 {
     match base(tokens) {
         Some(_) => 1,

@@ -1,4 +1,5 @@
 //! Rules of CSR instructions, fences, and the supervisor's instructions.
+ghost use Rattle.asm_tokens.specs.Readings.{spots_of};
 ghost use Rattle.std.specs.Prelude.{◌≡◌};
 ghost use Rattle.std.specs.List.{list_all};
 ghost use Rattle.asm_instructions.specs.Supervisor.{alone_rule, csr_made, csr_rule, fence_rule, is_fence, is_none, is_order, is_reading, is_set, read_csr_rule, sfence_rule, sip_made, source, write_csr_rule};
@@ -147,7 +148,7 @@ pub(crate) fn alone(instruction: Instruction, operands: &Operands) -> Result<Mad
 
 /// Two sets of `iorw`, or nothing: FENCE.
 pub(crate) fn fence(tokens: &[Placed<'_>]) -> Result<Made, Wrong>
-    ensures { result ≡ fence_rule tokens.now }
+    ensures { result ≡ fence_rule (spots_of tokens.now) }
 {
     if is_fence(tokens) {
         Ok(Made::One(Instruction::Fence))
@@ -158,7 +159,7 @@ pub(crate) fn fence(tokens: &[Placed<'_>]) -> Result<Made, Wrong>
 
 /// Whether tokens are two sets of accesses, or nothing.
 fn is_fence(tokens: &[Placed<'_>]) -> bool
-    ensures { result ≡ is_fence tokens.now }
+    ensures { result ≡ is_fence (spots_of tokens.now) }
 {
     match tokens {
         [] => true,

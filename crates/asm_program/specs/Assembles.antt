@@ -1,97 +1,113 @@
 -- What a program's text says.
-use Rattle.std.specs.Prelude.{◌≡◌, ℕ, suc, List, [], ◌∷◌, ◌++◌, length, map, slice_index, Result, Ok, Err}
+use Rattle.std.specs.Prelude.{◌≡◌, ◌⊎◌, ℕ, suc, List, [], ◌∷◌, ◌++◌, length, map, Result, Ok, Err}
+use Rattle.std.specs.List.{flat_map}
 use Rattle.asm_expressions.specs.declared.faults.Fault.{Fault}
-use Rattle.asm_expressions.specs.Symbols.{Context}
-use Rattle.asm_instructions.specs.declared.made.Made.{Made}
-use Rattle.asm_instructions.specs.Rules.{made_of}
-use Rattle.asm_tokens.specs.declared.reader.Placed.{Placed}
-use Rattle.asm_tokens.specs.Readings.{AreTokens, IsFault, token_spot}
-use Rattle.asm_program.specs.declared.assemble.AssemblyFault.{AssemblyFault}
-use Rattle.asm_program.specs.declared.assemble.AssemblyFault.TheVariants as faults
+use Rattle.asm_expressions.specs.Symbols.{Named, named_of}
+use Rattle.asm_tokens.specs.Places.{place_in}
+use Rattle.asm_tokens.specs.Readings.{AreTokens, IsFault, TokenSpot}
+use Rattle.asm_program.specs.declared.assemble.AssemblyError.{AssemblyError}
+use Rattle.asm_program.specs.declared.assemble.AssemblyError.TheVariants.{Faulty, NoMemory}
 use Rattle.asm_program.specs.declared.assemble.Program.{Program}
+use Rattle.asm_program.specs.declared.assemble.ProgramFault.{ProgramFault}
+use Rattle.asm_program.specs.declared.assemble.ProgramWrong.{ProgramWrong}
+use Rattle.asm_program.specs.declared.assemble.ProgramWrong.TheVariants.{InText, InStatement}
 use Rattle.asm_program.specs.declared.code.Line.{Line}
 use Rattle.asm_program.specs.declared.data.Datum.{Datum}
-use Rattle.asm_program.specs.declared.directives.Directive.TheVariants.{Data as Numbers}
-use Rattle.asm_program.specs.Code.{lines_of}
-use Rattle.asm_program.specs.Data.{numbers_in}
-use Rattle.asm_program.specs.Forms.{Saying, form_in}
-use Rattle.asm_program.specs.Forms.Saying.{Directs, Instructs}
-use Rattle.asm_program.specs.Layout.{Laid, begins, laid_in}
-use Rattle.asm_program.specs.Parts.{Piece, parts_in}
+use Rattle.asm_program.specs.Layout.{Reached, Standing, begins, standing, step}
+use Rattle.asm_program.specs.Parts.{Piece, parts_of}
+use Rattle.asm_program.specs.Written.{Writing, data_in, lines_in, written}
 
--- instructions and data, at their addresses
+-- instructions and data at their addresses, and the symbols
 pub record Image : Type 0 where
   pub code : List Line
   pub numbers : List Datum
+  pub symbols : List Named
 
 abbrev pub image_of : Program → Image
-image_of program = record { code = program.code.items; numbers = program.data.items }
+image_of program = record {
+  code = program.code.items;
+  numbers = program.data.items;
+  symbols = map named_of program.symbols.items;
+}
 
-abbrev pub nothing : Image
-nothing = record { code = []; numbers = [] }
+-- ---- parts
 
--- what is known at a part, when all parts were laid out
-abbrev pub sight_of : Laid → (i : ℕ) → Piece → Context
-sight_of laid i part =
-    record { symbols = laid.symbols; statement = i; here = slice_index laid.starts i; end = part.end }
+-- Parts that reach from one address to another: each stands where the one before it ends, and sees the symbols above it.
+abbrev pub LeadTo : (number : ℕ) → Reached → List Standing → Reached → Type 0
+LeadTo number from [] to = from ≡ to
+LeadTo number from (one ∷ more) to =
+    (one ≡ standing number from one.part) × (next : Reached) × (step number from one.part ≡ Ok next)
+    × LeadTo (suc number) next more to
 
-abbrev pub with_code : Image → (here left : ℕ) → Result Made Fault → Result Image Fault
-with_code image here left (Err fault) = Err fault
-with_code image here left (Ok made) = Ok (record image { code = image.code ++ lines_of made here left })
+-- These parts stand here, from address 0 on.
+pub record Stand (parts : List Piece) (standings : List Standing) (to : Reached) : Type 0 where
+  pub all : map (λ one. one.part) standings ≡ parts
+  pub lead : LeadTo 0 begins standings to
 
-abbrev pub with_data : Image → Result (List Datum) Fault → Result Image Fault
-with_data image (Err fault) = Err fault
-with_data image (Ok more) = Ok (record image { numbers = more })
+-- each part writes this, when it sees all symbols
+abbrev pub Write : List Named → List Standing → List Writing → Type 0
+Write symbols standings writings = map (written symbols) standings ≡ map Ok writings
 
--- an instruction makes code, and a directive of numbers data; any other part makes nothing
-abbrev pub added_by : Context → Image → Saying → (left : ℕ) → Result Image Fault
-added_by scope image (Instructs form operands) left =
-    with_code image scope.here left (made_of scope form left operands)
-added_by scope image (Directs (Numbers size) operands) left =
-    with_data image (numbers_in scope size left (length operands) scope.here image.numbers operands)
-added_by scope image saying left = Ok image
+-- Parts say a program: its symbols are those that they define, and its instructions and data those that they write.
+pub record Say (parts : List Piece) (image : Image) : Type 0 where
+  pub standings : List Standing
+  pub to : Reached
+  pub writings : List Writing
+  pub stand : Stand parts standings to
+  pub symbols : image.symbols ≡ to.symbols
+  pub write : Write to.symbols standings writings
+  pub code : image.code ≡ flat_map lines_in writings
+  pub numbers : image.numbers ≡ flat_map data_in writings
 
-abbrev pub added_said : Context → Image → Result (Saying × ℕ) Fault → Result Image Fault
-added_said scope image (Err fault) = Err fault
-added_said scope image (Ok said) = added_by scope image said.0 said.1
+-- A part that can't stand behind those before it, which do.
+pub record CantStand (parts : List Piece) (fault : Fault) : Type 0 where
+  pub before : List Standing
+  pub from : Reached
+  pub part : Piece
+  pub behind : List Piece
+  pub all : map (λ one. one.part) before ++ part ∷ behind ≡ parts
+  pub lead : LeadTo 0 begins before from
+  pub fails : step (length before) from part ≡ Err fault
 
--- one part more
-unfoldable pub image_added : Context → Image → Piece → Result Image Fault
-image_added scope image part = added_said scope image (form_in part)
+-- Parts that all stand, and the first of them that can't be written.
+pub record CantWrite (parts : List Piece) (fault : Fault) : Type 0 where
+  pub before : List Standing
+  pub one : Standing
+  pub behind : List Standing
+  pub to : Reached
+  pub writings : List Writing
+  pub stand : Stand parts (before ++ one ∷ behind) to
+  pub write : Write to.symbols before writings
+  pub fails : written to.symbols one ≡ Err fault
 
-abbrev pub image_on : (later : Image → Result Image Fault) → Result Image Fault → Result Image Fault
-image_on later (Err fault) = Err fault
-image_on later (Ok image) = later image
+-- The first fault of parts: of one that can't stand; or if all can, of one that can't be written.
+abbrev pub HaveFault : List Piece → Fault → Type 0
+HaveFault parts fault = CantStand parts fault ⊎ CantWrite parts fault
 
--- what parts say from the i-th on
-abbrev pub image_from : Laid → (i : ℕ) → Image → List Piece → Result Image Fault
-image_from laid i image [] = Ok image
-image_from laid i image (part ∷ parts) =
-    image_on (λ next. image_from laid (suc i) next parts) (image_added (sight_of laid i part) image part)
+-- ---- texts
 
-abbrev pub image_by : List Piece → Result Laid Fault → Result Image Fault
-image_by parts (Err fault) = Err fault
-image_by parts (Ok laid) = image_from laid 0 nothing parts
-
--- The instructions and data that tokens say, or their first fault. First every part is laid out; then each is read with all symbols.
-abbrev pub program_in : List Placed → Result Image Fault
-program_in tokens =
-    image_by (parts_in (length tokens) tokens) (laid_in 0 begins (parts_in (length tokens) tokens))
-
--- A text says these instructions and data.
+-- A text says this program.
 pub record Assembles (text : List ℕ) (image : Image) : Type 0 where
-  pub tokens : List Placed
-  pub are_tokens : AreTokens text (map token_spot tokens)
-  pub says : program_in tokens ≡ Ok image
+  pub tokens : List TokenSpot
+  pub are_tokens : AreTokens text tokens
+  pub say : Say (parts_of tokens) image
 
--- The first fault of a statement in a text.
-pub record HasFault (text : List ℕ) (fault : Fault) : Type 0 where
-  pub tokens : List Placed
-  pub are_tokens : AreTokens text (map token_spot tokens)
-  pub refuses : program_in tokens ≡ Err fault
+-- The first fault of a text whose characters are tokens.
+pub record HasPartFault (text : List ℕ) (fault : Fault) : Type 0 where
+  pub tokens : List TokenSpot
+  pub are_tokens : AreTokens text tokens
+  pub have : HaveFault (parts_of tokens) fault
 
--- Why a text is refused: its characters, its first statement with a fault, or memory was refused.
-abbrev pub IsRefused : (text : List ℕ) → AssemblyFault → Type 0
-IsRefused text (faults.Text fault) = IsFault text fault
-IsRefused text (faults.Statement fault) = HasFault text fault
-IsRefused text faults.NoMemory = Unit {0}
+-- a fault of a text's characters, or of its parts, at a place
+abbrev pub IsFaultAt : (text : List ℕ) → ProgramWrong → (left : ℕ) → Type 0
+IsFaultAt text (InText wrong) left = IsFault text (record { wrong = wrong; left = left })
+IsFaultAt text (InStatement wrong) left = HasPartFault text (record { wrong = wrong; left = left })
+
+-- The first fault of a text, with its line and column: of its characters; or if they are tokens, of its parts.
+abbrev pub HasFault : (text : List ℕ) → ProgramFault → Type 0
+HasFault text fault = (left : ℕ) × IsFaultAt text fault.wrong left × (fault.place ≡ place_in text left)
+
+-- Why a text isn't assembled: it has a fault, or memory was refused.
+abbrev pub IsRefused : (text : List ℕ) → AssemblyError → Type 0
+IsRefused text (Faulty fault) = HasFault text fault
+IsRefused text NoMemory = Unit {0}

@@ -1,11 +1,11 @@
 -- The data of a program: numbers of 1, 2, 4 or 8 bytes (GNU as, .byte, .2byte, .4byte, .8byte; RISC-V-Directives).
-use Rattle.std.specs.Prelude.{ℕ, zero, suc, ◌+◌, ◌/◌, ◌%◌, ◌^◌, nat_lt, ◌||◌, ◌==◌, if◌then◌else◌, List, [], ◌∷◌, ◌++◌, Result, Ok, Err}
+use Rattle.std.specs.Prelude.{ℕ, zero, suc, ◌+◌, ◌/◌, ◌%◌, ◌^◌, nat_lt, ◌||◌, ◌==◌, if◌then◌else◌, List, [], ◌∷◌, length, Result, Ok, Err}
 use Rattle.asm_expressions.specs.declared.faults.Fault.{Fault}
 use Rattle.asm_expressions.specs.declared.faults.Wrong.TheVariants.{OutOfRange}
 use Rattle.asm_expressions.specs.Symbols.{Context}
 use Rattle.asm_expressions.specs.Values.{value_of, wrong_at}
 use Rattle.asm_instructions.specs.Operands.{back_of, front_of, is_last}
-use Rattle.asm_tokens.specs.declared.reader.Placed.{Placed}
+use Rattle.asm_tokens.specs.Readings.{TokenSpot}
 use Rattle.asm_program.specs.declared.data.Datum.{Datum}
 use Rattle.asm_program.specs.Moves.{with_value}
 
@@ -23,17 +23,27 @@ sized size left value =
     else Ok value))
 
 -- a number of so many bytes
-abbrev pub number_of : Context → (size left : ℕ) → List Placed → Result ℕ Fault
+abbrev pub number_of : Context → (size left : ℕ) → List TokenSpot → Result ℕ Fault
 number_of scope size left tokens = with_value (value_of scope tokens) (sized size left)
 
-abbrev pub numbers_by : (size at : ℕ) → List Datum → List Placed → (later : (at : ℕ) → List Datum → List Placed → Result (List Datum) Fault) → Result ℕ Fault → Result (List Datum) Fault
-numbers_by size at before tokens later (Err fault) = Err fault
-numbers_by size at before tokens later (Ok value) =
-    let more = before ++ record { at = at; size = size; value = value } ∷ [] in
-    if is_last tokens then Ok more else later ((at + size) % 2 ^ 64) more (back_of tokens)
+abbrev pub before_more : Datum → Result (List Datum) Fault → Result (List Datum) Fault
+before_more datum (Err fault) = Err fault
+before_more datum (Ok more) = Ok (datum ∷ more)
 
--- Numbers with commas between them, one behind the other. (There are no more than tokens.)
-abbrev pub numbers_in : Context → (size left n at : ℕ) → List Datum → List Placed → Result (List Datum) Fault
-numbers_in scope size left zero at before tokens = Ok before
-numbers_in scope size left (suc n) at before tokens =
-    numbers_by size at before tokens (numbers_in scope size left n) (number_of scope size left (front_of tokens))
+abbrev pub datum_at : (at size value : ℕ) → Datum
+datum_at at size value = record { at = at; size = size; value = value }
+
+abbrev pub numbers_by : (size at : ℕ) → List TokenSpot → (later : (at : ℕ) → List TokenSpot → Result (List Datum) Fault) → Result ℕ Fault → Result (List Datum) Fault
+numbers_by size at tokens later (Err fault) = Err fault
+numbers_by size at tokens later (Ok value) =
+    if is_last tokens then Ok (datum_at at size value ∷ [])
+    else before_more (datum_at at size value) (later ((at + size) % 2 ^ 64) (back_of tokens))
+
+abbrev pub numbers_in : Context → (size left n at : ℕ) → List TokenSpot → Result (List Datum) Fault
+numbers_in scope size left zero at tokens = Ok []
+numbers_in scope size left (suc n) at tokens =
+    numbers_by size at tokens (numbers_in scope size left n) (number_of scope size left (front_of tokens))
+
+-- Numbers of a size with commas between them, one behind the other. (There are no more than tokens.)
+abbrev pub numbers_of : Context → (size left : ℕ) → List TokenSpot → Result (List Datum) Fault
+numbers_of scope size left tokens = numbers_in scope size left (length tokens) scope.here tokens

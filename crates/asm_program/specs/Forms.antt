@@ -6,8 +6,8 @@ use Rattle.asm_expressions.specs.Values.{wrong_at}
 use Rattle.asm_mnemonics.specs.declared.forms.OperandForm.{OperandForm}
 use Rattle.asm_mnemonics.specs.Mnemonics.{operands_of}
 use Rattle.asm_tokens.specs.declared.marks.Mark.TheVariants.{Colon}
-use Rattle.asm_tokens.specs.declared.reader.Placed.{Placed}
-use Rattle.asm_tokens.specs.Tokens.{Lexeme, lexeme_of}
+use Rattle.asm_tokens.specs.Readings.{TokenSpot, spots_of}
+use Rattle.asm_tokens.specs.Tokens.{Lexeme}
 use Rattle.asm_tokens.specs.Tokens.Lexeme.{Mark, Word}
 use Rattle.asm_program.specs.declared.directives.Directive.{Directive}
 use Rattle.asm_program.specs.declared.forms.Form.{Form}
@@ -19,14 +19,14 @@ use Rattle.asm_program.specs.Parts.{Piece}
 pub data Saying : Type 0 where
   Nothing : Saying
   Labels : List ℕ → Saying
-  Directs : Directive → List Placed → Saying
-  Instructs : OperandForm → List Placed → Saying
+  Directs : Directive → List TokenSpot → Saying
+  Instructs : OperandForm → List TokenSpot → Saying
 
 abbrev pub saying_of : Form → Saying
 saying_of forms.Nothing = Nothing
 saying_of (forms.Label name) = Labels name.now
-saying_of (forms.Directive directive operands) = Directs directive operands.now
-saying_of (forms.Instruction form operands) = Instructs form operands.now
+saying_of (forms.Directive directive operands) = Directs directive (spots_of operands.now)
+saying_of (forms.Instruction form operands) = Instructs form (spots_of operands.now)
 
 abbrev pub form_as : Result Form Fault → Result Saying Fault
 form_as (Ok form) = Ok (saying_of form)
@@ -41,24 +41,24 @@ abbrev pub is_colon_mark : Lexeme → Bool
 is_colon_mark (Mark Colon) = true
 is_colon_mark lexeme = false
 
-abbrev pub is_colon : List Placed → Bool
-is_colon (only ∷ []) = is_colon_mark (lexeme_of only.token)
+abbrev pub is_colon : List TokenSpot → Bool
+is_colon (only ∷ []) = is_colon_mark only.lexeme
 is_colon tokens = false
 
 abbrev pub begins_directive : List ℕ → Bool
 begins_directive [] = false
 begins_directive (b ∷ word) = b == 46
 
-abbrev pub directed : (left : ℕ) → List Placed → Option Directive → Result Saying Fault
+abbrev pub directed : (left : ℕ) → List TokenSpot → Option Directive → Result Saying Fault
 directed left operands None = wrong_at UnknownDirective left
 directed left operands (Some directive) = Ok (Directs directive operands)
 
-abbrev pub instructed : (left : ℕ) → List Placed → Option OperandForm → Result Saying Fault
+abbrev pub instructed : (left : ℕ) → List TokenSpot → Option OperandForm → Result Saying Fault
 instructed left operands None = wrong_at UnknownMnemonic left
 instructed left operands (Some form) = Ok (Instructs form operands)
 
 -- a directive begins with a dot; any other word is a mnemonic
-abbrev pub named_form : (word : List ℕ) → (left : ℕ) → List Placed → Result Saying Fault
+abbrev pub named_form : (word : List ℕ) → (left : ℕ) → List TokenSpot → Result Saying Fault
 named_form word left operands =
     if begins_directive word then directed left operands (directive_of word)
     else instructed left operands (operands_of word)
@@ -67,14 +67,14 @@ abbrev pub said_at : (left : ℕ) → Result Saying Fault → Result (Saying × 
 said_at left (Err fault) = Err fault
 said_at left (Ok saying) = Ok (saying, left)
 
-abbrev pub form_by : Lexeme → (left : ℕ) → List Placed → Result (Saying × ℕ) Fault
+abbrev pub form_by : Lexeme → (left : ℕ) → List TokenSpot → Result (Saying × ℕ) Fault
 form_by (Word word) left behind =
     if is_colon behind then Ok (Labels word, left) else said_at left (named_form word left behind)
 form_by lexeme left behind = wrong_at NoStatement left
 
-abbrev pub form_from : (end : ℕ) → List Placed → Result (Saying × ℕ) Fault
+abbrev pub form_from : (end : ℕ) → List TokenSpot → Result (Saying × ℕ) Fault
 form_from end [] = Ok (Nothing, end)
-form_from end (first ∷ behind) = form_by (lexeme_of first.token) first.left behind
+form_from end (first ∷ behind) = form_by first.lexeme first.left behind
 
 -- What a part says, and the place of its first word.
 abbrev pub form_in : Piece → Result (Saying × ℕ) Fault

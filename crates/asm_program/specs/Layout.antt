@@ -1,21 +1,16 @@
 -- Where each part of a program stands, and its symbols.
-use Rattle.std.specs.Prelude.{◌≡◌, ℕ, suc, Bool, not, ◌&&◌, if◌then◌else◌, List, [], ◌∷◌, ◌++◌, map, is_some, Result, Ok, Err}
+use Rattle.std.specs.Prelude.{ℕ, Bool, not, ◌&&◌, if◌then◌else◌, List, [], ◌∷◌, ◌++◌, is_some, Result, Ok, Err}
 use Rattle.std.specs.Int.{is_in_range}
 use Rattle.std.specs.List.{list_all}
 use Rattle.asm_expressions.specs.declared.faults.Fault.{Fault}
 use Rattle.asm_expressions.specs.declared.faults.Wrong.TheVariants.{BadOperands, DefinedTwice}
-use Rattle.asm_expressions.specs.Symbols.{Context, Named, named_in, named_of}
+use Rattle.asm_expressions.specs.Symbols.{Context, Named, named_in}
 use Rattle.asm_expressions.specs.Values.{value_of, wrong_at}
 use Rattle.asm_tokens.specs.declared.marks.Mark.TheVariants.{Comma}
-use Rattle.asm_tokens.specs.declared.reader.Placed.{Placed}
-use Rattle.asm_tokens.specs.Tokens.{Lexeme, lexeme_of}
+use Rattle.asm_tokens.specs.Readings.{TokenSpot}
+use Rattle.asm_tokens.specs.Tokens.{Lexeme}
 use Rattle.asm_tokens.specs.Tokens.Lexeme.{Mark, Word}
-use Rattle.asm_program.specs.declared.assemble.AssemblyFault.{AssemblyFault}
-use Rattle.asm_program.specs.declared.assemble.AssemblyFault.TheVariants as faults
 use Rattle.asm_program.specs.declared.directives.Directive.TheVariants.{Equ}
-use Rattle.asm_program.specs.declared.layout.Change.{Change}
-use Rattle.asm_program.specs.declared.layout.Change.TheVariants as changes
-use Rattle.asm_program.specs.declared.layout.Layout.{Layout}
 use Rattle.asm_program.specs.Forms.{Saying, form_in}
 use Rattle.asm_program.specs.Forms.Saying.{Nothing, Labels, Directs, Instructs}
 use Rattle.asm_program.specs.Moves.{behind_directive, behind_instruction, with_value}
@@ -23,43 +18,37 @@ use Rattle.asm_program.specs.Parts.{Piece}
 
 -- ---- what a part changes
 
+-- nothing, the address of what follows, or a symbol
 pub data Changing : Type 0 where
   Stays : Changing
   Moves : ℕ → Changing
   Defines : Named → Changing
 
-abbrev pub changing_of : Change → Changing
-changing_of changes.Stays = Stays
-changing_of (changes.Moves next) = Moves next
-changing_of (changes.Defines symbol) = Defines (named_of symbol)
-
-abbrev pub change_of : Result Change Fault → Result Changing Fault
-change_of (Ok change) = Ok (changing_of change)
-change_of (Err fault) = Err fault
-
 -- a local label's name is digits, and it can be defined again
 abbrev pub is_digits : List ℕ → Bool
 is_digits name = list_all (is_in_range 48 57) name
 
+-- a symbol that no part above defines
 abbrev pub defined : Context → (name : List ℕ) → (left value : ℕ) → Result Changing Fault
 defined scope name left value =
     if not (is_digits name) && is_some (named_in name scope.symbols) then wrong_at DefinedTwice left
     else Ok (Defines (record { name = name; value = value; statement = scope.statement }))
 
-abbrev pub equal_by : Context → (left : ℕ) → Lexeme → Lexeme → (at : ℕ) → List Placed → Result Changing Fault
+abbrev pub equal_by : Context → (left : ℕ) → Lexeme → Lexeme → (at : ℕ) → List TokenSpot → Result Changing Fault
 equal_by scope left (Word name) (Mark Comma) at value =
     with_value (value_of scope value) (λ n. defined scope name at n)
 equal_by scope left first second at value = wrong_at BadOperands left
 
 -- `.equ NAME, VALUE`
-abbrev pub equal_to : Context → (left : ℕ) → List Placed → Result Changing Fault
-equal_to scope left (first ∷ second ∷ value) =
-    equal_by scope left (lexeme_of first.token) (lexeme_of second.token) first.left value
+abbrev pub equal_to : Context → (left : ℕ) → List TokenSpot → Result Changing Fault
+equal_to scope left (first ∷ second ∷ value) = equal_by scope left first.lexeme second.lexeme first.left value
 equal_to scope left operands = wrong_at BadOperands left
 
 abbrev pub moving : Result ℕ Fault → Result Changing Fault
 moving next = with_value next (λ to. Ok (Moves to))
 
+-- A label defines its name as the address where it stands, and `.equ` its name as its value. Any other directive, and an
+-- instruction, moves on to the address behind it.
 abbrev pub changed_by : Context → Saying → (left : ℕ) → Result Changing Fault
 changed_by scope Nothing left = Ok Stays
 changed_by scope (Labels name) left = defined scope name left scope.here
@@ -77,50 +66,38 @@ change_in scope part = change_by scope (form_in part)
 
 -- ---- where parts stand
 
--- the address behind the parts so far, the symbols that they define, and the address of each
-pub record Laid : Type 0 where
+-- how far parts reach: the address behind them, and the symbols that they define
+pub record Reached : Type 0 where
   pub here : ℕ
   pub symbols : List Named
-  pub starts : List ℕ
 
-abbrev pub begins : Laid
-begins = record { here = 0; symbols = []; starts = [] }
+-- before the first part
+abbrev pub begins : Reached
+begins = record { here = 0; symbols = [] }
 
-abbrev pub laid_of : Layout → Laid
-laid_of layout =
-    record { here = layout.here; symbols = map named_of layout.symbols.items; starts = layout.starts.items }
+-- what is known at a part, by what stands above it
+abbrev pub seen_above : (number : ℕ) → Reached → Piece → Context
+seen_above number from part =
+    record { symbols = from.symbols; statement = number; here = from.here; end = part.end }
 
-abbrev pub changed : Laid → Changing → Laid
-changed laid Stays = record laid { starts = laid.starts ++ laid.here ∷ [] }
-changed laid (Moves next) = record laid { here = next; starts = laid.starts ++ laid.here ∷ [] }
-changed laid (Defines symbol) =
-    record laid { symbols = laid.symbols ++ symbol ∷ []; starts = laid.starts ++ laid.here ∷ [] }
+abbrev pub changed : Reached → Changing → Reached
+changed from Stays = from
+changed from (Moves next) = record from { here = next }
+changed from (Defines symbol) = record from { symbols = from.symbols ++ symbol ∷ [] }
 
-abbrev pub stepped_by : Laid → Result Changing Fault → Result Laid Fault
-stepped_by laid (Err fault) = Err fault
-stepped_by laid (Ok change) = Ok (changed laid change)
+abbrev pub stepped : Reached → Result Changing Fault → Result Reached Fault
+stepped from (Err fault) = Err fault
+stepped from (Ok change) = Ok (changed from change)
 
--- what is known at the next part
-abbrev pub context_at : (i : ℕ) → Laid → Piece → Context
-context_at i laid part = record { symbols = laid.symbols; statement = i; here = laid.here; end = part.end }
+-- How far parts reach with one part more; `number` is its number.
+unfoldable pub step : (number : ℕ) → Reached → Piece → Result Reached Fault
+step number from part = stepped from (change_in (seen_above number from part) part)
 
--- one part more
-unfoldable pub stepped : (i : ℕ) → Laid → Piece → Result Laid Fault
-stepped i laid part = stepped_by laid (change_in (context_at i laid part) part)
+-- a part where it stands: its number among the parts, and its address
+pub record Standing : Type 0 where
+  pub part : Piece
+  pub number : ℕ
+  pub at : ℕ
 
-abbrev pub laid_on : (later : Laid → Result Laid Fault) → Result Laid Fault → Result Laid Fault
-laid_on later (Err fault) = Err fault
-laid_on later (Ok laid) = later laid
-
--- Where parts stand, and all symbols, from the i-th part on.
-abbrev pub laid_in : (i : ℕ) → Laid → List Piece → Result Laid Fault
-laid_in i laid [] = Ok laid
-laid_in i laid (part ∷ parts) = laid_on (λ next. laid_in (suc i) next parts) (stepped i laid part)
-
--- ---- faults
-
--- what refuses a program is the fault of what was computed, or memory was refused
-abbrev pub IsFaultOf : {A : Type 0} → Result A Fault → AssemblyFault → Type 0
-IsFaultOf computed (faults.Statement fault) = computed ≡ Err fault
-IsFaultOf computed (faults.Text fault) = ⊥
-IsFaultOf computed faults.NoMemory = Unit {0}
+abbrev pub standing : (number : ℕ) → Reached → Piece → Standing
+standing number from part = record { part = part; number = number; at = from.here }

@@ -5,4 +5,7 @@ pub mod Moves
 pub mod Layout
 pub mod Code
 pub mod Data
+pub mod Written
 pub mod Assembles
+pub mod Laws
+pub mod Inside

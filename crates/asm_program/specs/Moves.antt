@@ -6,9 +6,8 @@ use Rattle.asm_expressions.specs.Symbols.{Context}
 use Rattle.asm_expressions.specs.Values.{value_of, wrong_at}
 use Rattle.asm_instructions.specs.Sizes.{count_of}
 use Rattle.asm_mnemonics.specs.declared.forms.OperandForm.{OperandForm}
-use Rattle.asm_tokens.specs.declared.reader.Placed.{Placed}
+use Rattle.asm_tokens.specs.Readings.{TokenSpot}
 use Rattle.asm_tokens.specs.Statements.{is_comma}
-use Rattle.asm_tokens.specs.Tokens.{lexeme_of}
 use Rattle.asm_program.specs.declared.directives.Directive.{Directive}
 use Rattle.asm_program.specs.declared.directives.Directive.TheVariants.{Equ, Org, Data, Space, Align, Balign, Passed}
 
@@ -27,22 +26,22 @@ abbrev pub with_value : {A : Type 0} → Result ℕ Fault → (ℕ → Result A 
 with_value (Err fault) then_by = Err fault
 with_value (Ok value) then_by = then_by value
 
-abbrev pub commas : List Placed → ℕ
+abbrev pub commas : List TokenSpot → ℕ
 commas [] = 0
-commas (placed ∷ tokens) = (if is_comma (lexeme_of placed.token) then 1 else 0) + commas tokens
+commas (placed ∷ tokens) = (if is_comma placed.lexeme then 1 else 0) + commas tokens
 
 -- how many numbers there are: one more than commas, or none
-abbrev pub number_count : List Placed → ℕ
+abbrev pub number_count : List TokenSpot → ℕ
 number_count [] = 0
 number_count (placed ∷ tokens) = commas (placed ∷ tokens) + 1
 
 -- an address that isn't lower than where it stands
-abbrev pub behind_org : Context → (left : ℕ) → List Placed → Result ℕ Fault
+abbrev pub behind_org : Context → (left : ℕ) → List TokenSpot → Result ℕ Fault
 behind_org scope left operands =
     with_value (value_of scope operands) (λ to. if nat_lt to scope.here then wrong_at Backwards left else Ok to)
 
 -- The address behind a directive that moves on.
-abbrev pub behind_directive : Context → Directive → (left : ℕ) → List Placed → Result ℕ Fault
+abbrev pub behind_directive : Context → Directive → (left : ℕ) → List TokenSpot → Result ℕ Fault
 behind_directive scope Equ left operands = Ok scope.here
 behind_directive scope Passed left operands = Ok scope.here
 behind_directive scope Org left operands = behind_org scope left operands
@@ -54,6 +53,6 @@ behind_directive scope Align left operands =
 behind_directive scope Balign left operands = with_value (value_of scope operands) (λ size. up_to scope.here size left)
 
 -- The address behind an instruction, which takes 4 bytes for each that the assembler writes.
-abbrev pub behind_instruction : Context → OperandForm → (left : ℕ) → List Placed → Result ℕ Fault
+abbrev pub behind_instruction : Context → OperandForm → (left : ℕ) → List TokenSpot → Result ℕ Fault
 behind_instruction scope form left operands =
     with_value (count_of scope form operands) (λ count. moved_by scope.here 4 count left)

@@ -1,146 +1,118 @@
 //! Assembles a text.
-ghost use Rattle.std.specs.Prelude.{◌≡◌, IfErr, IfOk, OnOk, map};
-ghost use Rattle.asm_expressions.specs.Symbols.{context_of};
-ghost use Rattle.asm_program.specs.declared.assemble.AssemblyFault.TheVariants.{NoMemory, Statement};
-ghost use Rattle.asm_program.specs.Assembles.{Assembles, IsRefused, image_added, image_from, image_of, nothing, program_in, sight_of};
-ghost use Rattle.asm_program.specs.Layout.{IsFaultOf, laid_of};
-ghost use Rattle.asm_program.specs.Parts.{part_of};
+ghost use Rattle.std.specs.Prelude.{◌≡◌, ◌-◌, ◌≤◌, IfErr, IfOk};
+ghost use Rattle.asm_program.specs.declared.assemble.AssemblyError.TheVariants.{Faulty};
+ghost use Rattle.asm_program.specs.Assembles.{Assembles, HaveFault, IsRefused, Say, image_of};
+ghost use Rattle.asm_program.specs.Inside.Passes.{StopsAt, program_in};
+ghost use Rattle.asm_program.specs.Parts.{parts_of};
+ghost use Rattle.asm_tokens.specs.Places.{place_in};
+ghost use Rattle.asm_tokens.specs.Readings.{spots_of};
 
-use crate::code::{Line, add_lines};
-use crate::data::{Datum, add_numbers};
-use crate::directives::Directive;
-use crate::forms::{Form, read_form};
-use crate::layout::{Layout, lay_out};
-use crate::parts::{Part, parts};
-use asm_expressions::{Fault, Scope};
-use asm_instructions::made_of;
-use asm_tokens::{Placed, TokenFault, TokensFault, read_tokens};
-use std::alloc::{AllocError, AllocFailed, Global};
+use crate::code::Line;
+use crate::data::Datum;
+use crate::layout::lay_out;
+use crate::output::write_all;
+use crate::parts::parts;
+use crate::stop::Stop;
+use asm_expressions::{Symbol, Wrong};
+use asm_tokens::{BadText, Placed, TextPlace, TokensFault, place_at, read_tokens};
+use std::alloc::Global;
 
 /// A program: what its text says.
 #[derive(Drop)]
-pub struct Program {
+pub struct Program<'a> {
     /// Its instructions, with their addresses.
     pub code: Vec<Line>,
     /// Its data, with their addresses.
     pub data: Vec<Datum>,
+    /// Its symbols, in the order of the parts that define them.
+    pub symbols: Vec<Symbol<'a>>,
+}
+
+/// What is wrong with a program.
+#[derive(Clone, Copy, Debug, PartialEq, Eq)]
+pub enum ProgramWrong {
+    /// Its characters.
+    InText(BadText),
+    /// A label or a statement.
+    InStatement(Wrong),
+}
+
+/// The first fault of a program.
+#[derive(Clone, Copy, Debug, PartialEq, Eq)]
+pub struct ProgramFault {
+    /// What is wrong.
+    pub wrong: ProgramWrong,
+    /// Its line and column.
+    pub place: TextPlace,
 }
 
 /// Why a text wasn't assembled.
 #[derive(Clone, Copy, Debug, PartialEq, Eq)]
-pub enum AssemblyFault {
-    /// Its characters: the first that begin nothing.
-    Text(TokenFault),
-    /// Its first statement with a fault.
-    Statement(Fault),
+pub enum AssemblyError {
+    /// Its first fault.
+    Faulty(ProgramFault),
     /// Memory was refused.
     NoMemory,
 }
 
-impl From<Fault> for AssemblyFault {
-    ghost from_gives = { λ fault made. made ≡ Statement fault };
-
-    fn from(fault: Fault) -> AssemblyFault {
-        AssemblyFault::Statement(fault)
-    }
-}
-
-impl From<AllocError> for AssemblyFault {
-    ghost from_gives = { λ _ made. made ≡ NoMemory };
-
-    fn from(_refused: AllocError) -> AssemblyFault {
-        AssemblyFault::NoMemory
-    }
-}
-
-impl<T: Drop> From<AllocFailed<T>> for AssemblyFault {
-    ghost from_gives = { λ _ made. made ≡ NoMemory };
-
-    fn from(_refused: AllocFailed<T>) -> AssemblyFault {
-        AssemblyFault::NoMemory
-    }
-}
-
-/// The program that a text is.
+/// The program that a text says.
 ///
 /// # Errors
 ///
-/// Its first fault: of its characters; or of where its parts stand; or of the values in its statements. Or out of memory.
-pub fn assemble_text(alloc: Global, text: &[u8]) -> Result<Program, AssemblyFault>
+/// Its first fault: of its characters; or of where its parts stand; or of what they write. Or out of memory.
+pub fn assemble_text<'a>(alloc: Global, text: &'a [u8]) -> Result<Program<'a>, AssemblyError>
     ensures program { IfOk result (λ program. Assembles text.now (image_of program)) }
     ensures fault { IfErr result (IsRefused text.now) }
 {
-    match read_tokens(alloc, text) {
-        Ok(tokens) => assemble(alloc, tokens.as_slice()),
-        Err(TokensFault::Wrong(fault)) => Err(AssemblyFault::Text(fault)),
-        Err(TokensFault::NoMemory) => Err(AssemblyFault::NoMemory),
+    let tokens = match read_tokens(alloc, text) {
+        Ok(tokens) => tokens,
+        Err(TokensFault::Wrong(fault)) => {
+            return Err(faulty(text, ProgramWrong::InText(fault.wrong), fault.left));
+        }
+        Err(TokensFault::NoMemory) => return Err(AssemblyError::NoMemory),
+    };
+    match assemble(alloc, tokens.as_slice()) {
+        Ok(program) => Ok(program),
+        Err(Stop::At(fault)) => Err(faulty(
+            text,
+            ProgramWrong::InStatement(fault.wrong),
+            fault.left,
+        )),
+        Err(Stop::NoMemory) => Err(AssemblyError::NoMemory),
     }
 }
 
-/// The program that tokens are.
-fn assemble(alloc: Global, tokens: &[Placed<'_>]) -> Result<Program, AssemblyFault>
-    ensures program { IfOk result (λ program. program_in tokens.now ≡ Ok (image_of program)) }
-    ensures fault { IfErr result (IsFaultOf (program_in tokens.now)) }
+/// The program that tokens say.
+fn assemble<'a>(alloc: Global, tokens: &[Placed<'a>]) -> Result<Program<'a>, Stop>
+    ensures program { IfOk result (λ program. program_in (parts_of (spots_of tokens.now)) ≡ Ok (image_of program)) }
+    ensures fault { IfErr result (StopsAt (program_in (parts_of (spots_of tokens.now)))) }
 {
     let parts = parts(alloc, tokens)?;
     let layout = lay_out(alloc, parts.as_slice())?;
-    write_parts(alloc, &layout, parts.as_slice())
+    let output = write_all(
+        alloc,
+        layout.symbols.as_slice(),
+        layout.statements.as_slice(),
+    )?;
+    Ok(Program {
+        code: output.code,
+        data: output.data,
+        symbols: layout.symbols,
+    })
 }
 
-/// The program of parts that were laid out.
-fn write_parts(
-    alloc: Global,
-    layout: &Layout<'_>,
-    parts: &[Part<'_, '_>],
-) -> Result<Program, AssemblyFault>
-    ensures program { IfOk result (λ program. image_from (laid_of layout.now) 0 nothing (map part_of parts.now) ≡ Ok (image_of program)) }
-    ensures fault { IfErr result (IsFaultOf (image_from (laid_of layout.now) 0 nothing (map part_of parts.now))) }
+/// A fault at a place.
+fn faulty(text: &[u8], wrong: ProgramWrong, left: usize) -> AssemblyError
+    ensures { result ≡ Faulty (record { wrong = wrong; place = place_in text.now left }) }
 {
-    let mut program = Program {
-        code: Vec::new(alloc),
-        data: Vec::new(alloc),
-    };
-    for (i, part) in parts.iter().enumerate() {
-        let scope = sight(layout, i, part);
-        program.add(&scope, part)?;
-    }
-    Ok(program)
+    let place = place_at(text, within(left, text.len()));
+    AssemblyError::Faulty(ProgramFault { wrong, place })
 }
 
-/// What is known at a part, when all parts were laid out.
-fn sight<'s, 'a>(layout: &'s Layout<'a>, i: usize, part: &Part<'_, '_>) -> Scope<'s, 'a>
-    ensures { context_of result ≡ sight_of (laid_of layout.now) i (part_of part.now) }
+/// A number of bytes, or the length of the text if that is less.
+fn within(left: usize, length: usize) -> usize
+    ensures small { result ≤ length }
+    ensures same { length - result ≡ length - left }
 {
-    let here = match layout.starts.as_slice().get(i) {
-        Some(start) => *start,
-        None => 0,
-    };
-    Scope {
-        symbols: layout.symbols.as_slice(),
-        statement: i,
-        here,
-        end: part.end,
-    }
-}
-
-impl Program {
-    /// Adds what a part says.
-    #[tactic(auto, unfolding(crate::specs::Assembles::image_added))]
-    fn add(&mut self, scope: &Scope<'_, '_>, part: &Part<'_, '_>) -> Result<(), AssemblyFault>
-        ensures added { OnOk result (image_added (context_of scope.now) (image_of self.old) (part_of part.now) ≡ Ok (image_of self.new)) }
-        ensures fault { IfErr result (IsFaultOf (image_added (context_of scope.now) (image_of self.old) (part_of part.now))) }
-    {
-        let (form, left) = read_form(part)?;
-        match form {
-            Form::Instruction(form, operands) => {
-                let made = made_of(scope, form, left, operands)?;
-                add_lines(&mut self.code, made, scope.here, left)?;
-                Ok(())
-            }
-            Form::Directive(Directive::Data(size), operands) => {
-                add_numbers(&mut self.data, scope, size, left, operands)
-            }
-            _ => Ok(()),
-        }
-    }
+    if left < length { left } else { length }
 }

@@ -1,11 +1,12 @@
 //! The data of a program.
-ghost use Rattle.std.specs.Prelude.{◌≡◌, ◌<◌, IfErr, OnOk, length};
+ghost use Rattle.std.specs.Prelude.{◌≡◌, ◌<◌, IfErr, OnOk};
 ghost use Rattle.asm_expressions.specs.Symbols.{context_of};
-ghost use Rattle.asm_program.specs.Data.{low_of, number_of, numbers_in};
-ghost use Rattle.asm_program.specs.Layout.{IsFaultOf};
+ghost use Rattle.asm_program.specs.Data.{low_of, number_of, numbers_of};
+ghost use Rattle.asm_program.specs.Inside.Passes.{StopsAt, with_before};
+ghost use Rattle.asm_tokens.specs.Readings.{spots_of};
 
-use crate::assemble::AssemblyFault;
 use crate::forms::fault;
+use crate::stop::Stop;
 use asm_expressions::{Fault, Scope, Wrong, value_of};
 use asm_instructions::first_operand;
 use asm_tokens::Placed;
@@ -22,16 +23,16 @@ pub struct Datum {
 }
 
 /// Adds numbers with commas between them, one behind the other.
-#[tactic(auto, using(crate::proofs::More::numbers_more))]
+#[tactic(auto, using(crate::proofs::More::numbers_more, crate::proofs::More::before_one, crate::proofs::More::before_none, crate::proofs::More::spots_length))]
 pub(crate) fn add_numbers(
     data: &mut Vec<Datum>,
     scope: &Scope<'_, '_>,
     size: u64,
     left: usize,
     operands: &[Placed<'_>],
-) -> Result<(), AssemblyFault>
-    ensures added { OnOk result (numbers_in (context_of scope.now) size left (length operands.now) scope.now.here data.old.items operands.now ≡ Ok data.new.items) }
-    ensures fault { IfErr result (IsFaultOf (numbers_in (context_of scope.now) size left (length operands.now) scope.now.here data.old.items operands.now)) }
+) -> Result<(), Stop>
+    ensures added { OnOk result (with_before data.old.items (numbers_of (context_of scope.now) size left (spots_of operands.now)) ≡ Ok data.new.items) }
+    ensures fault { IfErr result (StopsAt (with_before data.old.items (numbers_of (context_of scope.now) size left (spots_of operands.now)))) }
 {
     let mut rest = operands;
     let mut at = scope.here;
@@ -57,7 +58,7 @@ fn number_of(
     left: usize,
     tokens: &[Placed<'_>],
 ) -> Result<u64, Fault>
-    ensures { result ≡ number_of (context_of scope.now) size left tokens.now }
+    ensures { result ≡ number_of (context_of scope.now) size left (spots_of tokens.now) }
 {
     let value = value_of(scope, tokens)?;
     match size {

@@ -1,7 +1,8 @@
 //! What the parts of a program say.
 ghost use Rattle.std.specs.Prelude.{◌≡◌};
 ghost use Rattle.asm_program.specs.Forms.{begins_directive, form_as, form_in, form_of, is_colon, named_form};
-ghost use Rattle.asm_program.specs.Parts.{part_of};
+ghost use Rattle.asm_program.specs.Parts.{piece_of};
+ghost use Rattle.asm_tokens.specs.Readings.{spots_of};
 
 use crate::directives::{Directive, directive_of};
 use crate::parts::Part;
@@ -28,7 +29,7 @@ pub(crate) enum Form<'t, 'a> {
 ///
 /// The part isn't a label, a directive or an instruction.
 pub(crate) fn read_form<'t, 'a>(part: &Part<'t, 'a>) -> Result<(Form<'t, 'a>, usize), Fault>
-    ensures { form_of result ≡ form_in (part_of part.now) }
+    ensures { form_of result ≡ form_in (piece_of part.now) }
 {
     let Some((first, behind)) = part.tokens.split_first() else {
         return Ok((Form::Nothing, part.end));
@@ -49,7 +50,7 @@ fn named_form<'t, 'a>(
     left: usize,
     operands: &'t [Placed<'a>],
 ) -> Result<Form<'t, 'a>, Fault>
-    ensures { form_as result ≡ named_form word.now left operands.now }
+    ensures { form_as result ≡ named_form word.now left (spots_of operands.now) }
 {
     if begins_directive(word) {
         return match directive_of(word) {
@@ -75,7 +76,7 @@ fn begins_directive(word: &[u8]) -> bool
 
 /// Whether tokens are a colon.
 fn is_colon(tokens: &[Placed<'_>]) -> bool
-    ensures { result ≡ is_colon tokens.now }
+    ensures { result ≡ is_colon (spots_of tokens.now) }
 {
     match tokens {
         [only] => matches!(only.token, Token::Mark(Mark::Colon)),

@@ -1,28 +1,42 @@
 //! Where each part of a program stands, and its symbols.
 ghost use Rattle.std.specs.Prelude.{◌≡◌, IfErr, IfOk, OnOk, map};
 ghost use Rattle.asm_expressions.specs.Symbols.{context_of};
-ghost use Rattle.asm_program.specs.Layout.{IsFaultOf, begins, change_in, change_of, defined, equal_to, is_digits, laid_in, laid_of, stepped};
-ghost use Rattle.asm_program.specs.Parts.{part_of};
+ghost use Rattle.asm_program.specs.Inside.Passes.{StopsAt, change_of, laid_in, laid_more, laid_of, nothing_laid};
+ghost use Rattle.asm_program.specs.Layout.{change_in, defined, equal_to, is_digits};
+ghost use Rattle.asm_program.specs.Parts.{piece_of};
+ghost use Rattle.asm_tokens.specs.Readings.{spots_of};
 ghost use Rattle.std.specs.Int.{is_in_range};
+ghost use Rattle.std.specs.List.{list_all};
 
-use crate::assemble::AssemblyFault;
 use crate::directives::Directive;
 use crate::forms::{Form, fault, read_form};
 use crate::moves::{behind_directive, behind_instruction};
 use crate::parts::Part;
+use crate::stop::Stop;
 use asm_expressions::{Fault, Scope, Symbol, Wrong, named, value_of};
 use asm_tokens::{Mark, Placed, Token};
 use std::alloc::Global;
 
-/// Where the parts so far stand, and their symbols.
+/// A part where it stands.
+#[derive(Clone, Copy, Debug)]
+pub(crate) struct Statement<'t, 'a> {
+    /// The part.
+    pub part: Part<'t, 'a>,
+    /// Its number among the parts.
+    pub number: usize,
+    /// Its address.
+    pub at: u64,
+}
+
+/// The parts so far, with where they stand, and their symbols.
 #[derive(Drop)]
-pub(crate) struct Layout<'a> {
+pub(crate) struct Layout<'t, 'a> {
     /// The address behind them.
     pub here: u64,
     /// The symbols that they define.
     pub symbols: Vec<Symbol<'a>>,
-    /// The address of each.
-    pub starts: Vec<u64>,
+    /// The parts.
+    pub statements: Vec<Statement<'t, 'a>>,
 }
 
 /// What a part changes.
@@ -37,17 +51,14 @@ pub(crate) enum Change<'a> {
 }
 
 /// Where the parts of a program stand, and its symbols.
-pub(crate) fn lay_out<'a>(
-    alloc: Global,
-    parts: &[Part<'_, 'a>],
-) -> Result<Layout<'a>, AssemblyFault>
-    ensures laid { IfOk result (λ layout. laid_in 0 begins (map part_of parts.now) ≡ Ok (laid_of layout)) }
-    ensures fault { IfErr result (IsFaultOf (laid_in 0 begins (map part_of parts.now))) }
+pub(crate) fn lay_out<'t, 'a>(alloc: Global, parts: &[Part<'t, 'a>]) -> Result<Layout<'t, 'a>, Stop>
+    ensures laid { IfOk result (λ layout. laid_in 0 nothing_laid (map piece_of parts.now) ≡ Ok (laid_of layout)) }
+    ensures fault { IfErr result (StopsAt (laid_in 0 nothing_laid (map piece_of parts.now))) }
 {
     let mut layout = Layout {
         here: 0,
         symbols: Vec::new(alloc),
-        starts: Vec::new(alloc),
+        statements: Vec::new(alloc),
     };
     for (i, part) in parts.iter().enumerate() {
         layout.add(i, part)?;
@@ -55,21 +66,25 @@ pub(crate) fn lay_out<'a>(
     Ok(layout)
 }
 
-impl<'a> Layout<'a> {
+impl<'t, 'a> Layout<'t, 'a> {
     /// Adds a part.
-    #[tactic(auto, unfolding(crate::specs::Layout::stepped))]
-    fn add(&mut self, i: usize, part: &Part<'_, 'a>) -> Result<(), AssemblyFault>
-        ensures added { OnOk result (stepped i (laid_of self.old) (part_of part.now) ≡ Ok (laid_of self.new)) }
-        ensures fault { IfErr result (IsFaultOf (stepped i (laid_of self.old) (part_of part.now))) }
+    #[tactic(auto, unfolding(crate::specs::Layout::step))]
+    fn add(&mut self, number: usize, part: &Part<'t, 'a>) -> Result<(), Stop>
+        ensures added { OnOk result (laid_more number (laid_of self.old) (piece_of part.now) ≡ Ok (laid_of self.new)) }
+        ensures fault { IfErr result (StopsAt (laid_more number (laid_of self.old) (piece_of part.now))) }
     {
         let scope = Scope {
             symbols: self.symbols.as_slice(),
-            statement: i,
+            statement: number,
             here: self.here,
             end: part.end,
         };
         let change = change_by(&scope, part)?;
-        self.starts.push(self.here)?;
+        self.statements.push(Statement {
+            part: *part,
+            number,
+            at: self.here,
+        })?;
         match change {
             Change::Stays => {}
             Change::Moves(next) => self.here = next,
@@ -81,7 +96,7 @@ impl<'a> Layout<'a> {
 
 /// What a part changes.
 fn change_by<'a>(scope: &Scope<'_, '_>, part: &Part<'_, 'a>) -> Result<Change<'a>, Fault>
-    ensures { change_of result ≡ change_in (context_of scope.now) (part_of part.now) }
+    ensures { change_of result ≡ change_in (context_of scope.now) (piece_of part.now) }
 {
     let (form, left) = read_form(part)?;
     match form {
@@ -105,7 +120,7 @@ fn equal_to<'a>(
     left: usize,
     operands: &[Placed<'a>],
 ) -> Result<Change<'a>, Fault>
-    ensures { change_of result ≡ equal_to (context_of scope.now) left operands.now }
+    ensures { change_of result ≡ equal_to (context_of scope.now) left (spots_of operands.now) }
 {
     match operands {
         [first, second, value @ ..] => match (first.token, second.token) {

@@ -7,10 +7,14 @@ mod code;
 mod data;
 mod directives;
 mod forms;
+mod laws;
 mod layout;
 mod moves;
+mod output;
 mod parts;
+mod stop;
 
-pub use assemble::{AssemblyFault, Program, assemble_text};
+pub use assemble::{AssemblyError, Program, ProgramFault, ProgramWrong, assemble_text};
 pub use code::Line;
 pub use data::Datum;
+pub use laws::one_assembly;

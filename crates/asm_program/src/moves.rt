@@ -1,6 +1,7 @@
 //! How far directives and instructions reach.
 ghost use Rattle.std.specs.Prelude.{◌≡◌, ◌≤◌, length};
 ghost use Rattle.asm_expressions.specs.Symbols.{context_of};
+ghost use Rattle.asm_tokens.specs.Readings.{spots_of};
 ghost use Rattle.asm_program.specs.Moves.{behind_directive, behind_instruction, behind_org, commas, moved_by, number_count, up_to};
 
 use crate::directives::Directive;
@@ -17,7 +18,7 @@ pub(crate) fn behind_instruction(
     left: usize,
     operands: &[Placed<'_>],
 ) -> Result<u64, Fault>
-    ensures { result ≡ behind_instruction (context_of scope.now) form left operands.now }
+    ensures { result ≡ behind_instruction (context_of scope.now) form left (spots_of operands.now) }
 {
     let count = count_of(scope, form, operands)?;
     moved_by(scope.here, 4, count, left)
@@ -30,7 +31,7 @@ pub(crate) fn behind_directive(
     left: usize,
     operands: &[Placed<'_>],
 ) -> Result<u64, Fault>
-    ensures { result ≡ behind_directive (context_of scope.now) directive left operands.now }
+    ensures { result ≡ behind_directive (context_of scope.now) directive left (spots_of operands.now) }
 {
     match directive {
         Directive::Equ | Directive::Passed => Ok(scope.here),
@@ -56,7 +57,7 @@ pub(crate) fn behind_directive(
 
 /// `.org ADDRESS`, which doesn't go back.
 fn behind_org(scope: &Scope<'_, '_>, left: usize, operands: &[Placed<'_>]) -> Result<u64, Fault>
-    ensures { result ≡ behind_org (context_of scope.now) left operands.now }
+    ensures { result ≡ behind_org (context_of scope.now) left (spots_of operands.now) }
 {
     let to = value_of(scope, operands)?;
     if to < scope.here {
@@ -90,7 +91,7 @@ fn up_to(here: u64, size: u64, left: usize) -> Result<u64, Fault>
 
 /// How many numbers there are: one more than commas, or none.
 fn number_count(operands: &[Placed<'_>]) -> u64
-    ensures { result ≡ number_count operands.now }
+    ensures { result ≡ number_count (spots_of operands.now) }
 {
     if operands.is_empty() {
         return 0;
@@ -100,7 +101,7 @@ fn number_count(operands: &[Placed<'_>]) -> u64
 
 /// How many commas there are.
 fn commas(operands: &[Placed<'_>]) -> u64
-    ensures commas { result ≡ commas operands.now }
+    ensures commas { result ≡ commas (spots_of operands.now) }
     ensures few { result ≤ length operands.now }
 {
     let mut count = 0;

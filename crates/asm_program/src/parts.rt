@@ -1,6 +1,7 @@
 //! The parts of a program: labels, and statements.
-ghost use Rattle.std.specs.Prelude.{◌≡◌, ◌<◌, ◌≤◌, length, map, IfOk};
-ghost use Rattle.asm_program.specs.Parts.{behind_end, cut, end_of, part_of, parts_in};
+ghost use Rattle.std.specs.Prelude.{◌≡◌, ◌≤◌, IfOk, length, map};
+ghost use Rattle.asm_program.specs.Parts.{behind_end, behind_part, cut, end_of, first_part, parts_of, piece_of};
+ghost use Rattle.asm_tokens.specs.Readings.{spots_of};
 
 use asm_tokens::{Mark, Placed, Token};
 use std::alloc::{AllocError, Global};
@@ -15,12 +16,12 @@ pub(crate) struct Part<'t, 'a> {
 }
 
 /// The parts of a program, in order.
-#[tactic(auto, using(crate::proofs::More::parts_more))]
+#[tactic(auto, using(crate::proofs::More::parts_none, crate::proofs::More::parts_step, crate::proofs::More::spots_length))]
 pub(crate) fn parts<'t, 'a>(
     alloc: Global,
     tokens: &'t [Placed<'a>],
 ) -> Result<Vec<Part<'t, 'a>>, AllocError>
-    ensures { IfOk result (λ parts. map part_of parts.items ≡ parts_in (length tokens.now) tokens.now) }
+    ensures { IfOk result (λ parts. map piece_of parts.items ≡ parts_of (spots_of tokens.now)) }
 {
     let mut parts = Vec::new(alloc);
     let mut rest = tokens;
@@ -29,21 +30,31 @@ pub(crate) fn parts<'t, 'a>(
         if rest.is_empty() {
             return Ok(parts);
         }
-        let n = cut(rest);
-        let (front, behind) = rest.split_at(n);
-        parts.push(Part {
-            tokens: front,
-            end: end_of(behind),
-        })?;
-        rest = behind_end(behind);
+        let (part, behind) = first_part(rest);
+        parts.push(part)?;
+        rest = behind;
         most -= 1;
     }
     Ok(parts)
 }
 
+/// The first part, and the tokens behind it.
+#[tactic(auto, using(crate::proofs::More::spots_front, crate::proofs::More::spots_behind))]
+fn first_part<'t, 'a>(tokens: &'t [Placed<'a>]) -> (Part<'t, 'a>, &'t [Placed<'a>])
+    ensures part { piece_of result.0 ≡ first_part (spots_of tokens.now) }
+    ensures behind { spots_of result.1.now ≡ behind_part (spots_of tokens.now) }
+{
+    let (front, behind) = tokens.split_at(cut(tokens));
+    let part = Part {
+        tokens: front,
+        end: end_of(behind),
+    };
+    (part, behind_end(behind))
+}
+
 /// The number of tokens of the first part: up to the end of a statement, or with the `:` of a label.
 fn cut(tokens: &[Placed<'_>]) -> usize
-    ensures cut { result ≡ cut tokens.now }
+    ensures cut { result ≡ cut (spots_of tokens.now) }
     ensures within { result ≤ length tokens.now }
 {
     for (i, placed) in tokens.iter().enumerate() {
@@ -58,7 +69,7 @@ fn cut(tokens: &[Placed<'_>]) -> usize
 
 /// The place of the first token, or of the end of the text.
 fn end_of(tokens: &[Placed<'_>]) -> usize
-    ensures { result ≡ end_of tokens.now }
+    ensures { result ≡ end_of (spots_of tokens.now) }
 {
     match tokens.split_first() {
         Some((first, _)) => first.left,
@@ -68,7 +79,7 @@ fn end_of(tokens: &[Placed<'_>]) -> usize
 
 /// The tokens behind the end of a statement, if they begin with one.
 fn behind_end<'t, 'a>(tokens: &'t [Placed<'a>]) -> &'t [Placed<'a>]
-    ensures { result.now ≡ behind_end tokens.now }
+    ensures { spots_of result.now ≡ behind_end (spots_of tokens.now) }
 {
     match tokens.split_first() {
         Some((first, behind)) if matches!(first.token, Token::End) => behind,

@@ -1,5 +1,5 @@
 -- The tokens of a text, and its first fault.
-use Rattle.std.specs.Prelude.{◌≡◌, ℕ, List, [], ◌∷◌, length}
+use Rattle.std.specs.Prelude.{◌≡◌, ℕ, List, [], ◌∷◌, length, map}
 use Rattle.asm_tokens.specs.declared.reader.TokenFault.{TokenFault}
 use Rattle.asm_tokens.specs.declared.reader.Placed.{Placed}
 use Rattle.asm_tokens.specs.declared.reader.TokensFault.{TokensFault}
@@ -14,6 +14,9 @@ pub record TokenSpot : Type 0 where
 
 abbrev pub token_spot : Placed → TokenSpot
 token_spot placed = record { lexeme = lexeme_of placed.token; left = placed.left }
+
+abbrev pub spots_of : List Placed → List TokenSpot
+spots_of tokens = map token_spot tokens
 
 -- one thing read: a gap, or a token
 pub data TextPart : Type 0 where

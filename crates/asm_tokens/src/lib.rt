@@ -9,7 +9,6 @@ mod places;
 mod reader;
 mod registers;
 mod runs;
-mod statements;
 mod terms;
 mod tokens;
 
@@ -19,6 +18,5 @@ pub use numbers::asm_number;
 pub use places::{TextPlace, place_at};
 pub use reader::{Placed, TokenFault, TokensFault, read_tokens};
 pub use registers::register_number;
-pub use statements::{next_label, next_operand, next_statement};
 pub use terms::{Term, is_local_label, word_term};
 pub use tokens::{BadText, First, Token, first_token};

@@ -1,4 +1,5 @@
 use Rattle.std.proofs.Common.{◌≡◌, ◌+◌, ◌*◌, length}
+use Rattle.asm_tokens.specs.Readings.{spots_of}
 use Rattle.asm_expressions.specs.Symbols.{context_of}
 use Rattle.asm_expressions.specs.Values.{joins, reads, value_at}
 use Rattle.asm_expressions.proofs.values.+values.Given as goal
@@ -17,8 +18,8 @@ decreases-bracketed l = 3 * l.depth + 1
 
 abbrev pub invariant-joined-operators : goal.invariant-joined-operators
 invariant-joined-operators l =
-    joins (value_at (context_of l.scope) l.depth l.inner) l.level l.left (reads l.found.value l.found.rest.now)
-    ≡ joins (value_at (context_of l.scope) l.depth l.inner) l.level (length l.tokens) (reads l.initial.found.value l.initial.found.rest.now)
+    joins (value_at (context_of l.scope) l.depth l.inner) l.level l.left (reads l.found.value (spots_of l.found.rest.now))
+    ≡ joins (value_at (context_of l.scope) l.depth l.inner) l.level (length (spots_of l.tokens)) (reads l.initial.found.value (spots_of l.initial.found.rest.now))
 
 abbrev pub decreases-joined-operators : goal.decreases-joined-operators
 decreases-joined-operators l = l.left

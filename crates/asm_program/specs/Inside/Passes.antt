@@ -1,0 +1,120 @@
+-- The assembler's two passes over the parts: where each stands, and then what each writes. No promise rests on these definitions.
+use Rattle.std.specs.Prelude.{◌≡◌, ℕ, suc, List, [], ◌∷◌, ◌++◌, map, Result, Ok, Err}
+use Rattle.asm_expressions.specs.declared.faults.Fault.{Fault}
+use Rattle.asm_expressions.specs.Symbols.{Named, named_of}
+use Rattle.asm_program.specs.declared.code.Line.{Line}
+use Rattle.asm_program.specs.declared.data.Datum.{Datum}
+use Rattle.asm_program.specs.declared.layout.Change.{Change}
+use Rattle.asm_program.specs.declared.layout.Change.TheVariants as changes
+use Rattle.asm_program.specs.declared.layout.Layout.{Layout}
+use Rattle.asm_program.specs.declared.layout.Statement.{Statement}
+use Rattle.asm_program.specs.declared.output.Output.{Output}
+use Rattle.asm_program.specs.declared.stop.Stop.{Stop}
+use Rattle.asm_program.specs.declared.stop.Stop.TheVariants as stops
+use Rattle.asm_program.specs.Assembles.{Image}
+use Rattle.asm_program.specs.Layout.{Changing, Reached, Standing, begins, standing, step}
+use Rattle.asm_program.specs.Layout.Changing.{Stays, Moves, Defines}
+use Rattle.asm_program.specs.Parts.{Piece, piece_of}
+use Rattle.asm_program.specs.Written.{Writing, written}
+use Rattle.asm_program.specs.Written.Writing.{Blank, Lines, Numbers}
+
+-- ---- the code's values
+
+abbrev pub changing_of : Change → Changing
+changing_of changes.Stays = Stays
+changing_of (changes.Moves next) = Moves next
+changing_of (changes.Defines symbol) = Defines (named_of symbol)
+
+abbrev pub change_of : Result Change Fault → Result Changing Fault
+change_of (Ok change) = Ok (changing_of change)
+change_of (Err fault) = Err fault
+
+abbrev pub standing_of : Statement → Standing
+standing_of statement =
+    record { part = piece_of statement.part; number = statement.number; at = statement.at }
+
+-- what stops a pass is the fault of what was computed, or memory was refused
+abbrev pub StopsAt : {A : Type 0} → Result A Fault → Stop → Type 0
+StopsAt computed (stops.At fault) = computed ≡ Err fault
+StopsAt computed stops.NoMemory = Unit {0}
+
+-- ---- the first pass: how far the parts reach, and where each stands
+
+pub record Laid : Type 0 where
+  pub reached : Reached
+  pub standings : List Standing
+
+abbrev pub laid_of : Layout → Laid
+laid_of layout = record {
+  reached = record { here = layout.here; symbols = map named_of layout.symbols.items };
+  standings = map standing_of layout.statements.items;
+}
+
+abbrev pub nothing_laid : Laid
+nothing_laid = record { reached = begins; standings = [] }
+
+abbrev pub with_one : List Standing → Standing → Result Reached Fault → Result Laid Fault
+with_one before one (Err fault) = Err fault
+with_one before one (Ok reached) = Ok (record { reached = reached; standings = before ++ one ∷ [] })
+
+abbrev pub laid_more : (number : ℕ) → Laid → Piece → Result Laid Fault
+laid_more number laid part = with_one laid.standings (standing number laid.reached part) (step number laid.reached part)
+
+abbrev pub laid_on : (later : Laid → Result Laid Fault) → Result Laid Fault → Result Laid Fault
+laid_on later (Err fault) = Err fault
+laid_on later (Ok laid) = later laid
+
+abbrev pub laid_in : (number : ℕ) → Laid → List Piece → Result Laid Fault
+laid_in number laid [] = Ok laid
+laid_in number laid (part ∷ parts) = laid_on (λ next. laid_in (suc number) next parts) (laid_more number laid part)
+
+-- ---- the second pass: what all parts write
+
+pub record Sum : Type 0 where
+  pub code : List Line
+  pub numbers : List Datum
+
+abbrev pub sum_of : Output → Sum
+sum_of output = record { code = output.code.items; numbers = output.data.items }
+
+abbrev pub nothing_written : Sum
+nothing_written = record { code = []; numbers = [] }
+
+abbrev pub added : Sum → Writing → Sum
+added before Blank = before
+added before (Lines lines) = record before { code = before.code ++ lines }
+added before (Numbers numbers) = record before { numbers = before.numbers ++ numbers }
+
+abbrev pub added_if : Sum → Result Writing Fault → Result Sum Fault
+added_if before (Err fault) = Err fault
+added_if before (Ok writing) = Ok (added before writing)
+
+abbrev pub sum_on : (later : Sum → Result Sum Fault) → Result Sum Fault → Result Sum Fault
+sum_on later (Err fault) = Err fault
+sum_on later (Ok sum) = later sum
+
+abbrev pub sum_in : List Named → Sum → List Standing → Result Sum Fault
+sum_in symbols before [] = Ok before
+sum_in symbols before (one ∷ more) =
+    sum_on (λ next. sum_in symbols next more) (added_if before (written symbols one))
+
+abbrev pub with_before : List Datum → Result (List Datum) Fault → Result (List Datum) Fault
+with_before before (Err fault) = Err fault
+with_before before (Ok more) = Ok (before ++ more)
+
+-- ---- both
+
+abbrev pub sum_after : Laid → Result Sum Fault
+sum_after laid = sum_in laid.reached.symbols nothing_written laid.standings
+
+abbrev pub imaged : Laid → Result Sum Fault → Result Image Fault
+imaged laid (Err fault) = Err fault
+imaged laid (Ok sum) = Ok (record { code = sum.code; numbers = sum.numbers; symbols = laid.reached.symbols })
+
+abbrev pub program_by : Result Laid Fault → Result Image Fault
+program_by (Err fault) = Err fault
+program_by (Ok laid) = imaged laid (sum_after laid)
+
+-- what the passes make of parts
+abbrev pub program_in : List Piece → Result Image Fault
+program_in parts = program_by (laid_in 0 nothing_laid parts)

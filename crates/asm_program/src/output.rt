@@ -1,0 +1,71 @@
+//! What the parts of a program write.
+ghost use Rattle.std.specs.Prelude.{◌≡◌, IfErr, IfOk, OnOk, map};
+ghost use Rattle.asm_expressions.specs.Symbols.{named_of};
+ghost use Rattle.asm_program.specs.Inside.Passes.{StopsAt, added_if, nothing_written, standing_of, sum_in, sum_of};
+ghost use Rattle.asm_program.specs.Written.{written};
+
+use crate::code::{Line, add_lines};
+use crate::data::{Datum, add_numbers};
+use crate::directives::Directive;
+use crate::forms::{Form, read_form};
+use crate::layout::Statement;
+use crate::stop::Stop;
+use asm_expressions::{Scope, Symbol};
+use asm_instructions::made_of;
+use std::alloc::Global;
+
+/// Instructions and data, with their addresses.
+#[derive(Drop)]
+pub(crate) struct Output {
+    /// The instructions.
+    pub code: Vec<Line>,
+    /// The data.
+    pub data: Vec<Datum>,
+}
+
+/// What all parts write, where they stand.
+pub(crate) fn write_all(
+    alloc: Global,
+    symbols: &[Symbol<'_>],
+    statements: &[Statement<'_, '_>],
+) -> Result<Output, Stop>
+    ensures sum { IfOk result (λ output. sum_in (map named_of symbols.now) nothing_written (map standing_of statements.now) ≡ Ok (sum_of output)) }
+    ensures fault { IfErr result (StopsAt (sum_in (map named_of symbols.now) nothing_written (map standing_of statements.now))) }
+{
+    let mut output = Output {
+        code: Vec::new(alloc),
+        data: Vec::new(alloc),
+    };
+    for statement in statements {
+        output.add(symbols, statement)?;
+    }
+    Ok(output)
+}
+
+impl Output {
+    /// Adds what a part writes.
+    #[tactic(auto, using(crate::proofs::More::numbers_added, crate::proofs::More::numbers_fail), unfolding(crate::specs::Written::written))]
+    fn add(&mut self, symbols: &[Symbol<'_>], statement: &Statement<'_, '_>) -> Result<(), Stop>
+        ensures added { OnOk result (added_if (sum_of self.old) (written (map named_of symbols.now) (standing_of statement.now)) ≡ Ok (sum_of self.new)) }
+        ensures fault { IfErr result (StopsAt (added_if (sum_of self.old) (written (map named_of symbols.now) (standing_of statement.now)))) }
+    {
+        let scope = Scope {
+            symbols,
+            statement: statement.number,
+            here: statement.at,
+            end: statement.part.end,
+        };
+        let (form, left) = read_form(&statement.part)?;
+        match form {
+            Form::Instruction(form, operands) => {
+                let made = made_of(&scope, form, left, operands)?;
+                add_lines(&mut self.code, made, statement.at, left)?;
+                Ok(())
+            }
+            Form::Directive(Directive::Data(size), operands) => {
+                add_numbers(&mut self.data, &scope, size, left, operands)
+            }
+            _ => Ok(()),
+        }
+    }
+}
