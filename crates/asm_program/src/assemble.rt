@@ -109,10 +109,10 @@ fn faulty(text: &[u8], wrong: ProgramWrong, left: usize) -> AssemblyError
     AssemblyError::Faulty(ProgramFault { wrong, place })
 }
 
-/// A number of bytes, or the length of the text if that is less.
-fn within(left: usize, length: usize) -> usize
-    ensures small { result ≤ length }
-    ensures same { length - result ≡ length - left }
+/// A number of bytes, or that of all if it is less.
+fn within(left: usize, all: usize) -> usize
+    ensures small { result ≤ all }
+    ensures same { all - result ≡ all - left }
 {
-    if left < length { left } else { length }
+    if left < all { left } else { all }
 }

@@ -25,14 +25,14 @@ pub struct Datum {
 /// Adds numbers with commas between them, one behind the other.
 #[tactic(auto, using(crate::proofs::More::numbers_more, crate::proofs::More::before_one, crate::proofs::More::before_none, crate::proofs::More::spots_length))]
 pub(crate) fn add_numbers(
-    data: &mut Vec<Datum>,
+    numbers: &mut Vec<Datum>,
     scope: &Scope<'_, '_>,
     size: u64,
     left: usize,
     operands: &[Placed<'_>],
 ) -> Result<(), Stop>
-    ensures added { OnOk result (with_before data.old.items (numbers_of (context_of scope.now) size left (spots_of operands.now)) ≡ Ok data.new.items) }
-    ensures fault { IfErr result (StopsAt (with_before data.old.items (numbers_of (context_of scope.now) size left (spots_of operands.now)))) }
+    ensures added { OnOk result (with_before numbers.old.items (numbers_of (context_of scope.now) size left (spots_of operands.now)) ≡ Ok numbers.new.items) }
+    ensures fault { IfErr result (StopsAt (with_before numbers.old.items (numbers_of (context_of scope.now) size left (spots_of operands.now)))) }
 {
     let mut rest = operands;
     let mut at = scope.here;
@@ -40,7 +40,7 @@ pub(crate) fn add_numbers(
     'numbers: while most > 0 {
         let (front, behind) = first_operand(rest);
         let value = number_of(scope, size, left, front)?;
-        data.push(Datum { at, size, value })?;
+        numbers.push(Datum { at, size, value })?;
         if front.len() == rest.len() {
             return Ok(());
         }

@@ -6,7 +6,6 @@ ghost use Rattle.asm_program.specs.Layout.{change_in, defined, equal_to, is_digi
 ghost use Rattle.asm_program.specs.Parts.{piece_of};
 ghost use Rattle.asm_tokens.specs.Readings.{spots_of};
 ghost use Rattle.std.specs.Int.{is_in_range};
-ghost use Rattle.std.specs.List.{list_all};
 
 use crate::directives::Directive;
 use crate::forms::{Form, fault, read_form};

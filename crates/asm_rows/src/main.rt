@@ -2,9 +2,7 @@
 //! all that it must print.
 #![tactic(auto)]
 
-use asm_expressions::Fault;
-use asm_program::{AssemblyFault, Datum, Line, Program, assemble_text};
-use asm_tokens::place_at;
+use asm_program::{AssemblyError, Datum, Line, Program, ProgramFault, assemble_text};
 use std::rt::{Env, Files};
 use std::{env, fs, io};
 
@@ -24,13 +22,13 @@ fn show_file<R: AllocGlobal + Files + Print>(rt: &R, name: &str) -> io::Result<(
     let text = fs::read_to_string(rt, name)?;
     match assemble_text(rt.alloc(), text.as_bytes()) {
         Ok(program) => show_program(rt, &program),
-        Err(AssemblyFault::Statement(fault)) => show_fault(rt, text.as_bytes(), fault),
-        Err(fault) => println!(rt; "{fault:?}"),
+        Err(AssemblyError::Faulty(fault)) => show_fault(rt, &fault),
+        Err(AssemblyError::NoMemory) => println!(rt; "out of memory"),
     }
 }
 
 /// Prints the instructions and the data of a program.
-fn show_program<R: Print>(rt: &R, program: &Program) -> io::Result<()> {
+fn show_program<R: Print>(rt: &R, program: &Program<'_>) -> io::Result<()> {
     for line in &program.code {
         show_line(rt, line)?;
     }
@@ -56,13 +54,9 @@ fn show_datum<R: Print>(rt: &R, datum: &Datum) -> io::Result<()> {
 }
 
 /// Prints a fault, with its line and its column.
-fn show_fault<R: Print>(rt: &R, text: &[u8], fault: Fault) -> io::Result<()> {
+fn show_fault<R: Print>(rt: &R, fault: &ProgramFault) -> io::Result<()> {
     let wrong = fault.wrong;
-    if fault.left > text.len() {
-        return println!(rt; "{wrong:?}");
-    }
-    let place = place_at(text, fault.left);
-    let line = place.line;
-    let column = place.column;
+    let line = fault.place.line;
+    let column = fault.place.column;
     println!(rt; "{line}:{column} {wrong:?}")
 }

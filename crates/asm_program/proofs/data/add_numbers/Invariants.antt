@@ -7,8 +7,8 @@ use Rattle.asm_program.proofs.data.add_numbers.Given as goal
 
 abbrev pub invariant-numbers : goal.invariant-numbers
 invariant-numbers l =
-    with_before l.data.items (numbers_in (context_of l.scope) l.size l.left l.most l.at (spots_of l.rest))
-    ≡ with_before l.initial.data.items (numbers_of (context_of l.scope) l.size l.left (spots_of l.operands))
+    with_before l.numbers.items (numbers_in (context_of l.scope) l.size l.left l.most l.at (spots_of l.rest))
+    ≡ with_before l.initial.numbers.items (numbers_of (context_of l.scope) l.size l.left (spots_of l.operands))
 
 abbrev pub decreases-numbers : goal.decreases-numbers
 decreases-numbers l = l.most
