@@ -1,2 +1,3 @@
 pub mod More
 pub mod Relation
+pub mod Entry

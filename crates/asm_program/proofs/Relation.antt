@@ -4,18 +4,15 @@ use Rattle.std.specs.List.{flat_map}
 use Rattle.asm_expressions.specs.declared.faults.Fault.{Fault}
 use Rattle.asm_expressions.specs.declared.faults.Wrong.{Wrong}
 use Rattle.asm_expressions.specs.Symbols.{Named}
-use Rattle.asm_tokens.specs.declared.reader.TokenFault.{TokenFault}
 use Rattle.asm_tokens.specs.Places.{place_in}
-use Rattle.asm_tokens.specs.Readings.{AreTokens, HasOneRow, IsFault, TokenSpot}
+use Rattle.asm_tokens.specs.Readings.{HasOneRow, TokenSpot}
 use Rattle.asm_tokens.proofs.Parts.{one_reading_of}
-use Rattle.asm_program.specs.declared.assemble.AssemblyError.{AssemblyError}
-use Rattle.asm_program.specs.declared.assemble.AssemblyError.TheVariants.{Faulty}
 use Rattle.asm_program.specs.declared.assemble.ProgramFault.{ProgramFault}
 use Rattle.asm_program.specs.declared.assemble.ProgramWrong.{ProgramWrong}
 use Rattle.asm_program.specs.declared.assemble.ProgramWrong.TheVariants.{InText, InStatement}
 use Rattle.asm_program.specs.declared.code.Line.{Line}
 use Rattle.asm_program.specs.declared.data.Datum.{Datum}
-use Rattle.asm_program.specs.Assembles.{Assembles, CantStand, CantWrite, HasFault, HasPartFault, HaveFault, Image, IsFaultAt, IsRefused, LeadTo, Say, Stand, Write}
+use Rattle.asm_program.specs.Assembles.{Assembles, CantStand, CantWrite, HasFault, HaveFault, Image, IsFaultAt, LeadTo, Say, Stand, Write}
 use Rattle.asm_program.specs.Inside.Passes.{Laid, Sum, added, added_if, imaged, laid_in, laid_on, nothing_laid, nothing_written, program_by, program_in, sum_after, sum_in, sum_on, with_one}
 use Rattle.asm_program.specs.Laws.{HasOneAssembly}
 use Rattle.asm_program.specs.Layout.{Reached, Standing, begins, standing, step}
@@ -379,23 +376,3 @@ one_assembly_of text = record {
       let place : one.place ≡ other.place = f.2 ∙ ap (place_in text) same.1 ∙ sym g.2 in
       λ i. record { wrong = same.0 i; place = place i };
 }
-
--- ---- what the entry point says
-
-pub assembles_of : (text : List ℕ) (tokens : List TokenSpot) (image : Image) → AreTokens text tokens
-    → program_in (parts_of tokens) ≡ Ok image → Assembles text image
-assembles_of text tokens image are same =
-    record { tokens = tokens; are_tokens = are; say = say_of (parts_of tokens) image same }
-
-pub refused_part : (text : List ℕ) (tokens : List TokenSpot) (fault : Fault) (error : AssemblyError)
-    → error ≡ Faulty (record { wrong = InStatement fault.wrong; place = place_in text fault.left })
-    → AreTokens text tokens → program_in (parts_of tokens) ≡ Err fault → IsRefused text error
-refused_part text tokens fault error is are same =
-    let has : HasPartFault text fault =
-    record { tokens = tokens; are_tokens = are; have = have_of (parts_of tokens) fault same } in
-    subst (IsRefused text) (sym is) (fault.left, has, refl)
-
-pub refused_text : (text : List ℕ) (fault : TokenFault) (error : AssemblyError)
-    → error ≡ Faulty (record { wrong = InText fault.wrong; place = place_in text fault.left })
-    → IsFault text fault → IsRefused text error
-refused_text text fault error is has = subst (IsRefused text) (sym is) (fault.left, has, refl)

@@ -1,11 +1,11 @@
 //! Assembles a text.
 ghost use Rattle.std.specs.Prelude.{◌≡◌, ◌-◌, ◌≤◌, IfErr, IfOk};
 ghost use Rattle.asm_program.specs.declared.assemble.AssemblyError.TheVariants.{Faulty};
-ghost use Rattle.asm_program.specs.Assembles.{Assembles, HaveFault, IsRefused, Say, image_of};
-ghost use Rattle.asm_program.specs.Inside.Passes.{StopsAt, program_in};
+ghost use Rattle.asm_program.specs.Assembles.{Assembles, IsRefused, image_of};
+ghost use Rattle.asm_program.specs.Inside.Passes.{StopsAt, program_in, stopped, unread};
 ghost use Rattle.asm_program.specs.Parts.{parts_of};
 ghost use Rattle.asm_tokens.specs.Places.{place_in};
-ghost use Rattle.asm_tokens.specs.Readings.{spots_of};
+ghost use Rattle.asm_tokens.specs.Readings.{AreTokens, spots_of};
 
 use crate::code::Line;
 use crate::data::Datum;
@@ -64,21 +64,45 @@ pub fn assemble_text<'a>(alloc: Global, text: &'a [u8]) -> Result<Program<'a>, A
     ensures program { IfOk result (λ program. Assembles text.now (image_of program)) }
     ensures fault { IfErr result (IsRefused text.now) }
 {
-    let tokens = match read_tokens(alloc, text) {
-        Ok(tokens) => tokens,
-        Err(TokensFault::Wrong(fault)) => {
-            return Err(faulty(text, ProgramWrong::InText(fault.wrong), fault.left));
-        }
-        Err(TokensFault::NoMemory) => return Err(AssemblyError::NoMemory),
-    };
-    match assemble(alloc, tokens.as_slice()) {
+    match read_tokens(alloc, text) {
+        Ok(tokens) => assembled(alloc, text, tokens.as_slice()),
+        Err(fault) => Err(unread(text, fault)),
+    }
+}
+
+/// The program that a text with these tokens says.
+fn assembled<'a>(
+    alloc: Global,
+    text: &'a [u8],
+    tokens: &[Placed<'a>],
+) -> Result<Program<'a>, AssemblyError>
+    requires { AreTokens text.now (spots_of tokens.now) }
+    ensures program { IfOk result (λ program. Assembles text.now (image_of program)) }
+    ensures fault { IfErr result (IsRefused text.now) }
+{
+    match assemble(alloc, tokens) {
         Ok(program) => Ok(program),
-        Err(Stop::At(fault)) => Err(faulty(
-            text,
-            ProgramWrong::InStatement(fault.wrong),
-            fault.left,
-        )),
-        Err(Stop::NoMemory) => Err(AssemblyError::NoMemory),
+        Err(stop) => Err(stopped(text, stop)),
+    }
+}
+
+/// Why a text with these characters isn't assembled.
+fn unread(text: &[u8], fault: TokensFault) -> AssemblyError
+    ensures { result ≡ unread text.now fault }
+{
+    match fault {
+        TokensFault::Wrong(fault) => faulty(text, ProgramWrong::InText(fault.wrong), fault.left),
+        TokensFault::NoMemory => AssemblyError::NoMemory,
+    }
+}
+
+/// Why a text isn't assembled whose pass stopped.
+fn stopped(text: &[u8], stop: Stop) -> AssemblyError
+    ensures { result ≡ stopped text.now stop }
+{
+    match stop {
+        Stop::At(fault) => faulty(text, ProgramWrong::InStatement(fault.wrong), fault.left),
+        Stop::NoMemory => AssemblyError::NoMemory,
     }
 }
 

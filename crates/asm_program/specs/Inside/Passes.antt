@@ -2,6 +2,13 @@
 use Rattle.std.specs.Prelude.{◌≡◌, ℕ, suc, List, [], ◌∷◌, ◌++◌, map, Result, Ok, Err}
 use Rattle.asm_expressions.specs.declared.faults.Fault.{Fault}
 use Rattle.asm_expressions.specs.Symbols.{Named, named_of}
+use Rattle.asm_tokens.specs.declared.reader.TokensFault.{TokensFault}
+use Rattle.asm_tokens.specs.declared.reader.TokensFault.TheVariants as reads
+use Rattle.asm_tokens.specs.Places.{place_in}
+use Rattle.asm_program.specs.declared.assemble.AssemblyError.{AssemblyError}
+use Rattle.asm_program.specs.declared.assemble.AssemblyError.TheVariants.{Faulty}
+use Rattle.asm_program.specs.declared.assemble.AssemblyError.TheVariants as errors
+use Rattle.asm_program.specs.declared.assemble.ProgramWrong.TheVariants.{InText, InStatement}
 use Rattle.asm_program.specs.declared.code.Line.{Line}
 use Rattle.asm_program.specs.declared.data.Datum.{Datum}
 use Rattle.asm_program.specs.declared.layout.Change.{Change}
@@ -118,3 +125,13 @@ program_by (Ok laid) = imaged laid (sum_after laid)
 -- what the passes make of parts
 abbrev pub program_in : List Piece → Result Image Fault
 program_in parts = program_by (laid_in 0 nothing_laid parts)
+
+-- ---- why a text isn't assembled
+
+abbrev pub unread : (text : List ℕ) → TokensFault → AssemblyError
+unread text (reads.Wrong fault) = Faulty (record { wrong = InText fault.wrong; place = place_in text fault.left })
+unread text reads.NoMemory = errors.NoMemory
+
+abbrev pub stopped : (text : List ℕ) → Stop → AssemblyError
+stopped text (stops.At fault) = Faulty (record { wrong = InStatement fault.wrong; place = place_in text fault.left })
+stopped text stops.NoMemory = errors.NoMemory
