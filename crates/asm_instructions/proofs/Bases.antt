@@ -1,5 +1,5 @@
 -- One token more without a base, and operands of tokens.
-use Rattle.std.proofs.Common.{◌≡◌, ℕ, zero, suc, ◌+◌, ◌<◌, List, [], ◌∷◌, length, drop, take, Option, None, ap, sym, ◌∙◌, arith}
+use Rattle.std.proofs.Common.{◌≡◌, ℕ, zero, suc, ◌+◌, ◌<◌, ◌≤◌, List, [], ◌∷◌, length, drop, take, Option, None, ap, refl, sym, ◌∙◌, arith}
 use Rattle.std.proofs.lemmas.List.{drop-map, length-map, take-map}
 use Rattle.asm_tokens.specs.declared.reader.Placed.{Placed}
 use Rattle.asm_tokens.specs.Readings.{spots_of, token_spot}
@@ -23,3 +23,14 @@ spots_front n tokens = sym (take-map token_spot n tokens)
 
 pub spots_behind : (n : ℕ) (tokens : List Placed) → spots_of (drop n tokens) ≡ drop n (spots_of tokens)
 spots_behind n tokens = sym (drop-map token_spot n tokens)
+
+-- behind all tokens there is nothing, with a comma and without one
+pub spots_past : (n : ℕ) (tokens : List Placed) → length tokens ≤ n → spots_of (drop n tokens) ≡ drop (n + 1) (spots_of tokens)
+spots_past zero [] small = refl
+spots_past (suc n) [] small =
+    let next : suc (n + 1) ≡ suc n + 1 = omega arith in
+    ap (λ (k : ℕ). drop k (spots_of [])) next
+spots_past zero (placed ∷ tokens) small = absurd (omega arith)
+spots_past (suc n) (placed ∷ tokens) small =
+    let next : suc (n + 1) ≡ suc n + 1 = omega arith in
+    spots_past n tokens (omega arith) ∙ ap (λ (k : ℕ). drop k (spots_of (placed ∷ tokens))) next

@@ -194,7 +194,7 @@ fn base_behind(tokens: &[Placed<'_>]) -> Option<u8>
 }
 
 /// The tokens of the first operand, and those behind its comma.
-#[tactic(auto, using(crate::proofs::Bases::spots_length, crate::proofs::Bases::spots_front, crate::proofs::Bases::spots_behind))]
+#[tactic(auto, using(crate::proofs::Bases::spots_length, crate::proofs::Bases::spots_front, crate::proofs::Bases::spots_behind, crate::proofs::Bases::spots_past))]
 pub fn first_operand<'t, 'a>(tokens: &'t [Placed<'a>]) -> (&'t [Placed<'a>], &'t [Placed<'a>])
     ensures front { spots_of result.0.now ≡ front_of (spots_of tokens.now) }
     ensures back { spots_of result.1.now ≡ back_of (spots_of tokens.now) }
