@@ -85,11 +85,16 @@ impl<'t, 'a> Layout<'t, 'a> {
             at: self.here,
         })?;
         match change {
-            Change::Stays => {}
-            Change::Moves(next) => self.here = next,
-            Change::Defines(symbol) => self.symbols.push(symbol)?,
+            Change::Stays => Ok(()),
+            Change::Moves(next) => {
+                self.here = next;
+                Ok(())
+            }
+            Change::Defines(symbol) => {
+                self.symbols.push(symbol)?;
+                Ok(())
+            }
         }
-        Ok(())
     }
 }
 
