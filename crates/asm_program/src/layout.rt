@@ -2,7 +2,8 @@
 ghost use Rattle.std.specs.Prelude.{◌≡◌, IfErr, IfOk, OnOk, map};
 ghost use Rattle.asm_expressions.specs.Symbols.{context_of};
 ghost use Rattle.asm_program.specs.Inside.Passes.{StopsAt, change_of, laid_in, laid_more, laid_of, nothing_laid};
-ghost use Rattle.asm_program.specs.Layout.{change_in, defined, equal_to, is_digits};
+ghost use Rattle.asm_program.specs.Forms.Saying.{Directs};
+ghost use Rattle.asm_program.specs.Layout.{change_in, changed_by, defined, equal_to, is_digits};
 ghost use Rattle.asm_program.specs.Parts.{piece_of};
 ghost use Rattle.asm_tokens.specs.Readings.{spots_of};
 ghost use Rattle.std.specs.Int.{is_in_range};
@@ -106,13 +107,27 @@ fn change_by<'a>(scope: &Scope<'_, '_>, part: &Part<'_, 'a>) -> Result<Change<'a
     match form {
         Form::Nothing => Ok(Change::Stays),
         Form::Label(name) => defined(scope, name, left, scope.here),
-        Form::Directive(Directive::Equ, operands) => equal_to(scope, left, operands),
-        Form::Directive(directive, operands) => {
-            let next = behind_directive(scope, directive, left, operands)?;
-            Ok(Change::Moves(next))
-        }
+        Form::Directive(directive, operands) => directed(scope, directive, left, operands),
         Form::Instruction(form, operands) => {
             let next = behind_instruction(scope, form, left, operands)?;
+            Ok(Change::Moves(next))
+        }
+    }
+}
+
+/// What a directive changes.
+fn directed<'a>(
+    scope: &Scope<'_, '_>,
+    directive: Directive,
+    left: usize,
+    operands: &[Placed<'a>],
+) -> Result<Change<'a>, Fault>
+    ensures { change_of result ≡ changed_by (context_of scope.now) (Directs directive (spots_of operands.now)) left }
+{
+    match directive {
+        Directive::Equ => equal_to(scope, left, operands),
+        _ => {
+            let next = behind_directive(scope, directive, left, operands)?;
             Ok(Change::Moves(next))
         }
     }

@@ -1,8 +1,10 @@
 //! What the parts of a program write.
 ghost use Rattle.std.specs.Prelude.{◌≡◌, IfErr, IfOk, OnOk, map};
-ghost use Rattle.asm_expressions.specs.Symbols.{named_of};
+ghost use Rattle.asm_expressions.specs.Symbols.{context_of, named_of};
+ghost use Rattle.asm_program.specs.Forms.Saying.{Directs};
 ghost use Rattle.asm_program.specs.Inside.Passes.{StopsAt, added_if, nothing_written, standing_of, sum_in, sum_of};
-ghost use Rattle.asm_program.specs.Written.{written};
+ghost use Rattle.asm_program.specs.Written.{written, written_by};
+ghost use Rattle.asm_tokens.specs.Readings.{spots_of};
 
 use crate::code::{Line, add_lines};
 use crate::data::{Datum, add_numbers};
@@ -12,6 +14,7 @@ use crate::layout::Statement;
 use crate::stop::Stop;
 use asm_expressions::{Scope, Symbol};
 use asm_instructions::made_of;
+use asm_tokens::Placed;
 use std::alloc::Global;
 
 /// Instructions and data, with their addresses.
@@ -44,7 +47,7 @@ pub(crate) fn write_all(
 
 impl Output {
     /// Adds what a part writes.
-    #[tactic(auto, using(crate::proofs::More::numbers_added, crate::proofs::More::numbers_fail), unfolding(crate::specs::Written::written))]
+    #[tactic(auto, unfolding(crate::specs::Written::written))]
     fn add(&mut self, symbols: &[Symbol<'_>], statement: &Statement<'_, '_>) -> Result<(), Stop>
         ensures added { OnOk result (added_if (sum_of self.old) (written (map named_of symbols.now) (standing_of statement.now)) ≡ Ok (sum_of self.new)) }
         ensures fault { IfErr result (StopsAt (added_if (sum_of self.old) (written (map named_of symbols.now) (standing_of statement.now)))) }
@@ -57,14 +60,33 @@ impl Output {
         };
         let (form, left) = read_form(&statement.part)?;
         match form {
+            Form::Nothing => Ok(()),
+            Form::Label(_) => Ok(()),
+            Form::Directive(directive, operands) => {
+                self.add_data(&scope, directive, left, operands)
+            }
             Form::Instruction(form, operands) => {
                 let made = made_of(&scope, form, left, operands)?;
                 add_lines(&mut self.code, made, statement.at, left)?;
                 Ok(())
             }
-            Form::Directive(Directive::Data(size), operands) => {
-                add_numbers(&mut self.data, &scope, size, left, operands)
-            }
+        }
+    }
+
+    /// Adds the data of a directive.
+    #[tactic(auto, using(crate::proofs::More::numbers_added, crate::proofs::Stops::stops_numbers))]
+    fn add_data(
+        &mut self,
+        scope: &Scope<'_, '_>,
+        directive: Directive,
+        left: usize,
+        operands: &[Placed<'_>],
+    ) -> Result<(), Stop>
+        ensures added { OnOk result (added_if (sum_of self.old) (written_by (context_of scope.now) (Directs directive (spots_of operands.now)) left) ≡ Ok (sum_of self.new)) }
+        ensures fault { IfErr result (StopsAt (added_if (sum_of self.old) (written_by (context_of scope.now) (Directs directive (spots_of operands.now)) left))) }
+    {
+        match directive {
+            Directive::Data(size) => add_numbers(&mut self.data, scope, size, left, operands),
             _ => Ok(()),
         }
     }
