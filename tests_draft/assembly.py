@@ -25,7 +25,7 @@ REGISTERS = ("zero ra sp gp tp t0 t1 t2 s0 s1 a0 a1 a2 a3 a4 a5 a6 a7 s2 s3 s4 s
 # ---- what is written
 
 THREE = ("add sub sll slt sltu xor srl sra or and mul mulh mulhsu mulhu div divu rem remu "
-         "addw subw sllw srlw sraw mulw divw divuw remw remuw").split()
+         "sgt sgtu addw subw sllw srlw sraw mulw divw divuw remw remuw").split()
 SHORT = "addi slti sltiu xori ori andi addiw".split()
 SHIFTS = {"slli": 64, "srli": 64, "srai": 64, "slliw": 32, "srliw": 32, "sraiw": 32}
 LOADS = "lb lh lw ld lbu lhu lwu".split()

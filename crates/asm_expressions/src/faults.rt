@@ -41,6 +41,10 @@ pub enum Wrong {
     DefinedTwice,
     /// `.org` goes back, or a program is larger than the address space.
     Backwards,
+    /// No section is called so: `.text`, `.rodata`, `.data` and `.bss` are.
+    UnknownSection,
+    /// The size of a section depends on where it stands.
+    Unsettled,
 }
 
 /// What is wrong with a statement, and its place.

@@ -34,6 +34,12 @@ registers_rule op operands = do
   r ← taken (three_registers operands)
   Ok (One (Compute op r.0 r.1 r.2))
 
+-- with the second register first: `sgt`
+abbrev pub turned_registers_rule : AluOp → Operands → Result Made Wrong
+turned_registers_rule op operands = do
+  r ← taken (three_registers operands)
+  Ok (One (Compute op r.0 r.2 r.1))
+
 abbrev pub immediate_rule : AluOp → Operands → Result Made Wrong
 immediate_rule op operands = do
   r ← taken (registers_value operands)

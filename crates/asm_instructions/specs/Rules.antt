@@ -5,13 +5,13 @@ use Rattle.asm_expressions.specs.declared.faults.Wrong.{Wrong}
 use Rattle.asm_expressions.specs.declared.faults.Wrong.TheVariants as wrongs
 use Rattle.asm_expressions.specs.Symbols.{Context}
 use Rattle.asm_mnemonics.specs.declared.forms.OperandForm.{OperandForm}
-use Rattle.asm_mnemonics.specs.declared.forms.OperandForm.TheVariants.{Registers, Immediate, Shift, Lui, Auipc, Load, StoreDouble, StoreNarrow, Amo, Fetch, Branch, TurnedBranch, BranchToZero, BranchFromZero, Jal, Jalr, Goto, JumpRegister, Return, Call, Tail, LoadAddress, LoadImmediate, Nop, Copy, Csr, CsrImmediate, ReadCsr, WriteCsr, WriteCsrImmediate, Fence, FenceTso, FenceI, SfenceVma, Wfi, Ecall, Ebreak, Sret, Refused}
+use Rattle.asm_mnemonics.specs.declared.forms.OperandForm.TheVariants.{Registers, TurnedRegisters, Immediate, Shift, Lui, Auipc, Load, StoreDouble, StoreNarrow, Amo, Fetch, Branch, TurnedBranch, BranchToZero, BranchFromZero, Jal, Jalr, Goto, JumpRegister, Return, Call, Tail, LoadAddress, LoadImmediate, Nop, Copy, Csr, CsrImmediate, ReadCsr, WriteCsr, WriteCsrImmediate, Fence, FenceTso, FenceI, SfenceVma, Wfi, Ecall, Ebreak, Sret, Refused}
 use Rattle.asm_tokens.specs.Readings.{TokenSpot}
 use Rattle.rv64_instructions.specs.declared.instruction.Instruction.TheVariants as does
 use Rattle.asm_instructions.specs.declared.made.Made.{Made}
 use Rattle.asm_instructions.specs.declared.memory.StoreSize.TheVariants.{Double, Narrow}
 use Rattle.asm_instructions.specs.declared.operands.Operands.{Operands}
-use Rattle.asm_instructions.specs.Compute.{auipc_rule, copy_rule, immediate_rule, la_rule, li_rule, lui_rule, nop_rule, registers_rule, shift_rule}
+use Rattle.asm_instructions.specs.Compute.{auipc_rule, copy_rule, immediate_rule, la_rule, li_rule, lui_rule, nop_rule, registers_rule, shift_rule, turned_registers_rule}
 use Rattle.asm_instructions.specs.Jumps.{branch_rule, branch_zero_rule, call_rule, goto_rule, jal_rule, jalr_rule, jr_rule, return_rule, tail_rule}
 use Rattle.asm_instructions.specs.Memory.{amo_rule, fetch_rule, load_rule, store_rule}
 use Rattle.asm_instructions.specs.Operands.{operands_in}
@@ -20,6 +20,7 @@ use Rattle.asm_instructions.specs.Supervisor.{alone_rule, csr_rule, fence_rule, 
 -- what a form makes of its operands, at an address
 unfoldable pub rule_by : OperandForm → (here : ℕ) → Operands → Result Made Wrong
 rule_by (Registers op) here operands = registers_rule op operands
+rule_by (TurnedRegisters op) here operands = turned_registers_rule op operands
 rule_by (Immediate op) here operands = immediate_rule op operands
 rule_by (Shift op) here operands = shift_rule op operands
 rule_by Lui here operands = lui_rule operands

@@ -1,7 +1,7 @@
 //! Rules of instructions that compute.
 ghost use Rattle.std.specs.Prelude.{◌≡◌, ◌≤◌};
 ghost use Rattle.rv64_instructions.specs.declared.instruction.Instruction.TheVariants.{Compute, ComputeImmediate};
-ghost use Rattle.asm_instructions.specs.Compute.{auipc_rule, copied, copy_rule, immediate_rule, la_rule, li_rule, lui_rule, nop_rule, registers_rule, shift_bits, shift_rule};
+ghost use Rattle.asm_instructions.specs.Compute.{auipc_rule, copied, copy_rule, immediate_rule, la_rule, li_rule, lui_rule, nop_rule, registers_rule, turned_registers_rule, shift_bits, shift_rule};
 
 use crate::made::Made;
 use crate::operands::Operands;
@@ -18,6 +18,19 @@ pub(crate) fn registers(op: AluOp, operands: &Operands) -> Result<Made, Wrong>
 {
     let (rd, rs1, rs2) = three_registers(operands).ok_or(Wrong::BadOperands)?;
     Ok(Made::One(Instruction::Compute { op, rd, rs1, rs2 }))
+}
+
+/// `rd, rs1, rs2`, of which the second is the first operand
+pub(crate) fn turned_registers(op: AluOp, operands: &Operands) -> Result<Made, Wrong>
+    ensures { result ≡ turned_registers_rule op operands.now }
+{
+    let (rd, rs1, rs2) = three_registers(operands).ok_or(Wrong::BadOperands)?;
+    Ok(Made::One(Instruction::Compute {
+        op,
+        rd,
+        rs1: rs2,
+        rs2: rs1,
+    }))
 }
 
 /// `rd, rs1, imm`

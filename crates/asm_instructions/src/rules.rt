@@ -5,7 +5,8 @@ ghost use Rattle.asm_expressions.specs.Symbols.{context_of};
 ghost use Rattle.asm_instructions.specs.Rules.{made_of, placed, rule_by, takes_csr};
 
 use crate::compute::{
-    copy, immediate, load_address, load_immediate, nop, registers, shift, upper, upper_here,
+    copy, immediate, load_address, load_immediate, nop, registers, shift, turned_registers, upper,
+    upper_here,
 };
 use crate::jumps::{
     branch_registers, branch_zero, call, goto, jump_link, jump_register, jump_register_link, ret,
@@ -70,6 +71,7 @@ pub(crate) fn rule(form: OperandForm, here: u64, operands: &Operands) -> Result<
 {
     match form {
         OperandForm::Registers(op) => registers(op, operands),
+        OperandForm::TurnedRegisters(op) => turned_registers(op, operands),
         OperandForm::Immediate(op) => immediate(op, operands),
         OperandForm::Shift(op) => shift(op, operands),
         OperandForm::Lui => upper(operands),

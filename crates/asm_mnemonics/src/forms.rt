@@ -8,6 +8,8 @@ use rv64_instructions::CsrHow;
 pub enum OperandForm {
     /// `rd, rs1, rs2`: an operation on two registers.
     Registers(AluOp),
+    /// `rd, rs1, rs2`: the same with the second register first.
+    TurnedRegisters(AluOp),
     /// `rd, rs1, imm`: an operation on a register and an immediate of 12 bits, which is signed.
     Immediate(AluOp),
     /// `rd, rs1, shamt`: a shift by a constant below 64, or 32 for a word.

@@ -8,7 +8,7 @@ use rv64_alu::{AluOp, Comparison, LoadKind, WordOp};
 use rv64_instructions::CsrHow;
 
 /// All mnemonics, each with the form of its operands.
-pub const MNEMONICS: [(&[u8], OperandForm); 141] = [
+pub const MNEMONICS: [(&[u8], OperandForm); 143] = [
     (b"add", Form::Registers(AluOp::Add)),
     (b"sub", Form::Registers(AluOp::Sub)),
     (b"sll", Form::Registers(AluOp::Sll)),
@@ -37,6 +37,8 @@ pub const MNEMONICS: [(&[u8], OperandForm); 141] = [
     (b"divuw", Form::Registers(AluOp::Word(WordOp::Divu))),
     (b"remw", Form::Registers(AluOp::Word(WordOp::Rem))),
     (b"remuw", Form::Registers(AluOp::Word(WordOp::Remu))),
+    (b"sgt", Form::TurnedRegisters(AluOp::Slt)),
+    (b"sgtu", Form::TurnedRegisters(AluOp::Sltu)),
     (b"addi", Form::Immediate(AluOp::Add)),
     (b"slti", Form::Immediate(AluOp::Slt)),
     (b"sltiu", Form::Immediate(AluOp::Sltu)),

@@ -1,8 +1,11 @@
 -- The passes give a program, or a fault, exactly where the relations do. So a text says one program, or has one fault.
 use Rattle.std.proofs.Common.{◌≡◌, ◌⊎◌, ℕ, suc, ◌+◌, List, [], ◌∷◌, ◌++◌, length, map, refl, sym, ap, ◌∙◌, subst, append_assoc, append-nil, inl, inr, arith, Result, Ok, Err}
+use Rattle.std.specs.Prelude.{Bool, true, false, if◌then◌else◌, Option, Some, None}
 use Rattle.std.specs.List.{flat_map}
 use Rattle.asm_expressions.specs.declared.faults.Fault.{Fault}
 use Rattle.asm_expressions.specs.declared.faults.Wrong.{Wrong}
+use Rattle.asm_expressions.specs.declared.faults.Wrong.TheVariants.{Backwards, Unsettled}
+use Rattle.asm_expressions.specs.Values.{wrong_at}
 use Rattle.asm_expressions.specs.Symbols.{Named}
 use Rattle.asm_tokens.specs.Places.{place_in}
 use Rattle.asm_tokens.specs.Readings.{HasOneRow, TokenSpot}
@@ -12,11 +15,13 @@ use Rattle.asm_program.specs.declared.assemble.ProgramWrong.{ProgramWrong}
 use Rattle.asm_program.specs.declared.assemble.ProgramWrong.TheVariants.{InText, InStatement}
 use Rattle.asm_program.specs.declared.code.Line.{Line}
 use Rattle.asm_program.specs.declared.data.Datum.{Datum}
-use Rattle.asm_program.specs.Assembles.{Assembles, CantStand, CantWrite, HasFault, HaveFault, Image, IsFaultAt, LeadTo, Say, Stand, Write}
-use Rattle.asm_program.specs.Inside.Passes.{Laid, Sum, added, added_if, imaged, laid_in, laid_on, nothing_laid, nothing_written, program_by, program_in, sum_after, sum_in, sum_on, with_one}
+use Rattle.asm_program.specs.Assembles.{Assembles, CantFollow, CantStand, CantWrite, DontSettle, HasFault, HaveFault, HaveNoRoom, HaveSizes, Image, IsFaultAt, LeadTo, Say, Settle, Stand, Write}
+use Rattle.asm_program.specs.Inside.Passes.{Laid, Sum, added, added_if, based_by, imaged, laid_in, laid_on, nothing_laid, nothing_written, program_in, settled_by, sized_by, sum_after, sum_in, sum_on, with_laid, with_one}
 use Rattle.asm_program.specs.Laws.{HasOneAssembly}
 use Rattle.asm_program.specs.Layout.{Reached, Standing, begins, standing, step}
 use Rattle.asm_program.specs.Parts.{Piece, parts_of}
+use Rattle.asm_program.specs.declared.sections.Counters.{Counters}
+use Rattle.asm_program.specs.Sections.{are_settled, bases_of, zeros}
 use Rattle.asm_program.specs.Written.{Writing, data_in, lines_in, written}
 use Rattle.asm_program.specs.Written.Writing.{Blank, Lines, Numbers}
 
@@ -226,79 +231,27 @@ misses_sum symbols before (first ∷ front) one behind (writing ∷ writings) fa
     ap (adds_on symbols before (front ++ one ∷ behind)) is
     ∙ misses_sum symbols (added before writing) front one behind writings fault rest fails
 
--- ---- both passes
+-- ---- both passes, forth
 
-stand_of : (parts : List Piece) (laid : Laid) → laid_in 0 nothing_laid parts ≡ Ok laid → Stand parts laid.standings laid.reached
-stand_of parts laid is =
-    let led = laid_leads 0 nothing_laid laid parts is in
+stand_of : (bases : Counters) (parts : List Piece) (laid : Laid) → laid_in 0 (nothing_laid bases) parts ≡ Ok laid
+    → Stand bases parts laid.standings laid.reached
+stand_of bases parts laid is =
+    let led = laid_leads 0 (nothing_laid bases) laid parts is in
     record {
       all = ap parts_at led.1 ∙ led.2;
-      lead = subst (λ (s : List Standing). LeadTo 0 begins s laid.reached) (sym led.1) led.3;
+      lead = subst (λ (s : List Standing). LeadTo 0 (begins bases) s laid.reached) (sym led.1) led.3;
     }
 
-laid_of : (parts : List Piece) (standings : List Standing) (to : Reached) → Stand parts standings to
-    → laid_in 0 nothing_laid parts ≡ laid_ok to standings
-laid_of parts standings to stand =
-    ap (laid_in 0 nothing_laid) (sym stand.all) ∙ leads_laid 0 begins to [] standings stand.lead
+sizes_of : (parts : List Piece) (sizes : Laid) → laid_in 0 (nothing_laid zeros) parts ≡ Ok sizes → HaveSizes parts sizes.reached.counters
+sizes_of parts sizes is =
+    record { standings = sizes.standings; to = sizes.reached; stand = stand_of zeros parts sizes is; same = refl }
 
-said_by : (parts : List Piece) (image : Image) (laid : Laid) → laid_in 0 nothing_laid parts ≡ Ok laid
-    → (sum : Result Sum Fault) → sum_after laid ≡ sum → imaged laid sum ≡ Ok image → Say parts image
-said_by parts image laid is (Err fault) adds same = absurd cc
-said_by parts image laid is (Ok sum) adds same =
-    let made : Image = record { code = sum.code; numbers = sum.numbers; symbols = laid.reached.symbols } in
-    let e : made ≡ image = cc in
-    let wrote = sum_writes laid.reached.symbols nothing_written sum laid.standings adds in
-    record {
-      standings = laid.standings;
-      to = laid.reached;
-      writings = wrote.0;
-      stand = stand_of parts laid is;
-      symbols = ap (λ (one : Image). one.symbols) (sym e);
-      write = wrote.1;
-      code = ap (λ (one : Image). one.code) (sym e) ∙ wrote.2;
-      numbers = ap (λ (one : Image). one.numbers) (sym e) ∙ wrote.3;
-    }
-
-say_by : (parts : List Piece) (image : Image) (laid : Result Laid Fault) → laid_in 0 nothing_laid parts ≡ laid
-    → program_by laid ≡ Ok image → Say parts image
-say_by parts image (Err fault) is same = absurd cc
-say_by parts image (Ok laid) is same = said_by parts image laid is (sum_after laid) refl same
-
-pub say_of : (parts : List Piece) (image : Image) → program_in parts ≡ Ok image → Say parts image
-say_of parts image same = say_by parts image (laid_in 0 nothing_laid parts) refl same
-
-of_say : (parts : List Piece) (image : Image) → Say parts image → program_in parts ≡ Ok image
-of_say parts image say =
-    let laid : Laid = record { reached = say.to; standings = say.standings } in
-    ap program_by (laid_of parts say.standings say.to say.stand)
-    ∙ ap (imaged laid) (writes_sum say.to.symbols nothing_written say.standings say.writings say.write)
-    ∙ (λ i. image_ok (sym say.code i) (sym say.numbers i) (sym say.symbols i))
-
-missed_by : (parts : List Piece) (fault : Fault) (laid : Laid) → laid_in 0 nothing_laid parts ≡ Ok laid
-    → (sum : Result Sum Fault) → sum_after laid ≡ sum → imaged laid sum ≡ Err fault → HaveFault parts fault
-missed_by parts fault laid is (Ok sum) adds same = absurd cc
-missed_by parts fault laid is (Err other) adds same =
-    let e : other ≡ fault = cc in
-    let m = sum_misses laid.reached.symbols nothing_written laid.standings fault (adds ∙ ap Err e) in
-    inr (record {
-      before = m.0;
-      one = m.1;
-      behind = m.2;
-      to = laid.reached;
-      writings = m.3;
-      stand = subst (λ (s : List Standing). Stand parts s laid.reached) (sym m.4) (stand_of parts laid is);
-      write = m.5;
-      fails = m.6;
-    })
-
-have_by : (parts : List Piece) (fault : Fault) (laid : Result Laid Fault) → laid_in 0 nothing_laid parts ≡ laid
-    → program_by laid ≡ Err fault → HaveFault parts fault
-have_by parts fault (Ok laid) is same = missed_by parts fault laid is (sum_after laid) refl same
-have_by parts fault (Err other) is same =
-    let e : other ≡ fault = cc in
-    let f = laid_fails 0 nothing_laid parts fault (is ∙ ap Err e) in
+cant_of : (bases : Counters) (parts : List Piece) (fault : Fault) → laid_in 0 (nothing_laid bases) parts ≡ Err fault
+    → CantStand bases parts fault
+cant_of bases parts fault is =
+    let f = laid_fails 0 (nothing_laid bases) parts fault is in
     let none : length f.0 ≡ 0 + length f.0 = omega arith in
-    inl (record {
+    record {
       before = f.0;
       from = f.1;
       part = f.2;
@@ -306,20 +259,185 @@ have_by parts fault (Err other) is same =
       all = f.4;
       lead = f.5;
       fails = ap (λ (k : ℕ). step k f.1 f.2) none ∙ f.6;
-    })
+    }
+
+-- what the passes went through
+module _ (parts : List Piece) (sizes : Laid) (has : laid_in 0 (nothing_laid zeros) parts ≡ Ok sizes) where
+  module _ (bases : Counters) (follow : bases_of sizes.reached.counters ≡ Some bases) where
+    module _ (laid : Laid) (is : laid_in 0 (nothing_laid bases) parts ≡ Ok laid) where
+      settle_of : are_settled bases sizes.reached.counters laid.reached.counters ≡ true → Settle parts laid.standings laid.reached
+      settle_of same = record {
+        sizes = sizes.reached.counters;
+        bases = bases;
+        have_sizes = sizes_of parts sizes has;
+        follow = follow;
+        stand = stand_of bases parts laid is;
+        same = same;
+      }
+
+      said_by : (image : Image) (settled : are_settled bases sizes.reached.counters laid.reached.counters ≡ true)
+          → (sum : Result Sum Fault) → sum_after laid ≡ sum → imaged laid sum ≡ Ok image → Say parts image
+      said_by image settled (Err fault) adds same = absurd cc
+      said_by image settled (Ok sum) adds same =
+          let made : Image = record { code = sum.code; numbers = sum.numbers; symbols = laid.reached.symbols } in
+          let e : made ≡ image = cc in
+          let wrote = sum_writes laid.reached.symbols nothing_written sum laid.standings adds in
+          record {
+            standings = laid.standings;
+            to = laid.reached;
+            writings = wrote.0;
+            settle = settle_of settled;
+            symbols = ap (λ (one : Image). one.symbols) (sym e);
+            write = wrote.1;
+            code = ap (λ (one : Image). one.code) (sym e) ∙ wrote.2;
+            numbers = ap (λ (one : Image). one.numbers) (sym e) ∙ wrote.3;
+          }
+
+      missed_by : (fault : Fault) (settled : are_settled bases sizes.reached.counters laid.reached.counters ≡ true)
+          → (sum : Result Sum Fault) → sum_after laid ≡ sum → imaged laid sum ≡ Err fault → HaveFault parts fault
+      missed_by fault settled (Ok sum) adds same = absurd cc
+      missed_by fault settled (Err other) adds same =
+          let e : other ≡ fault = cc in
+          let m = sum_misses laid.reached.symbols nothing_written laid.standings fault (adds ∙ ap Err e) in
+          inr (inr (inr (inr (record {
+            before = m.0;
+            one = m.1;
+            behind = m.2;
+            to = laid.reached;
+            writings = m.3;
+            settle = subst (λ (s : List Standing). Settle parts s laid.reached) (sym m.4) (settle_of settled);
+            write = m.5;
+            fails = m.6;
+          }))))
+
+      say_settled : (image : Image) (settled : Bool) → are_settled bases sizes.reached.counters laid.reached.counters ≡ settled
+          → (if settled then imaged laid (sum_after laid) else wrong_at Unsettled 0) ≡ Ok image → Say parts image
+      say_settled image false is same = absurd cc
+      say_settled image true is same = said_by image is (sum_after laid) refl same
+
+      have_settled : (fault : Fault) (settled : Bool) → are_settled bases sizes.reached.counters laid.reached.counters ≡ settled
+          → (if settled then imaged laid (sum_after laid) else wrong_at Unsettled 0) ≡ Err fault → HaveFault parts fault
+      have_settled fault true is same = missed_by fault is (sum_after laid) refl same
+      have_settled fault false differ same =
+          let e : record { wrong = Unsettled; left = 0 } ≡ fault = cc in
+          inr (inr (inr (inl (record {
+            sizes = sizes.reached.counters;
+            bases = bases;
+            standings = laid.standings;
+            to = laid.reached;
+            have_sizes = sizes_of parts sizes has;
+            follow = follow;
+            stand = stand_of bases parts laid is;
+            differ = differ;
+            is = sym e;
+          }))))
+
+    say_laid : (image : Image) (laid : Result Laid Fault) → laid_in 0 (nothing_laid bases) parts ≡ laid
+        → with_laid (settled_by bases sizes) laid ≡ Ok image → Say parts image
+    say_laid image (Err fault) is same = absurd cc
+    say_laid image (Ok laid) is same =
+        say_settled laid is image (are_settled bases sizes.reached.counters laid.reached.counters) refl same
+
+    have_laid : (fault : Fault) (laid : Result Laid Fault) → laid_in 0 (nothing_laid bases) parts ≡ laid
+        → with_laid (settled_by bases sizes) laid ≡ Err fault → HaveFault parts fault
+    have_laid fault (Ok laid) is same =
+        have_settled laid is fault (are_settled bases sizes.reached.counters laid.reached.counters) refl same
+    have_laid fault (Err other) is same =
+        let e : other ≡ fault = cc in
+        inr (inr (inl (record {
+          sizes = sizes.reached.counters;
+          bases = bases;
+          have_sizes = sizes_of parts sizes has;
+          follow = follow;
+          cant = cant_of bases parts fault (is ∙ ap Err e);
+        })))
+
+  say_based : (image : Image) (bases : Option Counters) → bases_of sizes.reached.counters ≡ bases → based_by parts sizes bases ≡ Ok image
+      → Say parts image
+  say_based image None follow same = absurd cc
+  say_based image (Some bases) follow same = say_laid bases follow image (laid_in 0 (nothing_laid bases) parts) refl same
+
+  have_based : (fault : Fault) (bases : Option Counters) → bases_of sizes.reached.counters ≡ bases → based_by parts sizes bases ≡ Err fault
+      → HaveFault parts fault
+  have_based fault (Some bases) follow same = have_laid bases follow fault (laid_in 0 (nothing_laid bases) parts) refl same
+  have_based fault None none same =
+      let e : record { wrong = Backwards; left = 0 } ≡ fault = cc in
+      inr (inl (record { sizes = sizes.reached.counters; have_sizes = sizes_of parts sizes has; none = none; is = sym e }))
+
+say_by : (parts : List Piece) (image : Image) (sizes : Result Laid Fault) → laid_in 0 (nothing_laid zeros) parts ≡ sizes
+    → with_laid (sized_by parts) sizes ≡ Ok image → Say parts image
+say_by parts image (Err fault) is same = absurd cc
+say_by parts image (Ok sizes) is same = say_based parts sizes is image (bases_of sizes.reached.counters) refl same
+
+pub say_of : (parts : List Piece) (image : Image) → program_in parts ≡ Ok image → Say parts image
+say_of parts image same = say_by parts image (laid_in 0 (nothing_laid zeros) parts) refl same
+
+have_by : (parts : List Piece) (fault : Fault) (sizes : Result Laid Fault) → laid_in 0 (nothing_laid zeros) parts ≡ sizes
+    → with_laid (sized_by parts) sizes ≡ Err fault → HaveFault parts fault
+have_by parts fault (Ok sizes) is same = have_based parts sizes is fault (bases_of sizes.reached.counters) refl same
+have_by parts fault (Err other) is same = let e : other ≡ fault = cc in inl (cant_of zeros parts fault (is ∙ ap Err e))
 
 pub have_of : (parts : List Piece) (fault : Fault) → program_in parts ≡ Err fault → HaveFault parts fault
-have_of parts fault same = have_by parts fault (laid_in 0 nothing_laid parts) refl same
+have_of parts fault same = have_by parts fault (laid_in 0 (nothing_laid zeros) parts) refl same
+
+-- ---- and back
+
+laid_of : (bases : Counters) (parts : List Piece) (standings : List Standing) (to : Reached) → Stand bases parts standings to
+    → laid_in 0 (nothing_laid bases) parts ≡ laid_ok to standings
+laid_of bases parts standings to stand =
+    ap (laid_in 0 (nothing_laid bases)) (sym stand.all) ∙ leads_laid 0 (begins bases) to [] standings stand.lead
+
+cant_laid : (bases : Counters) (parts : List Piece) (fault : Fault) → CantStand bases parts fault
+    → laid_in 0 (nothing_laid bases) parts ≡ Err fault
+cant_laid bases parts fault cant =
+    let none : 0 + length cant.before ≡ length cant.before = omega arith in
+    ap (laid_in 0 (nothing_laid bases)) (sym cant.all)
+    ∙ fails_laid 0 (begins bases) cant.from [] cant.before cant.part cant.behind fault cant.lead
+    (ap (λ (k : ℕ). step k cant.from cant.part) none ∙ cant.fails)
+
+-- behind the sizes there is what the bases give
+back_sizes : (parts : List Piece) (sizes : Counters) (have : HaveSizes parts sizes) (bases : Option Counters) → bases_of sizes ≡ bases
+    → program_in parts ≡ based_by parts (record { reached = have.to; standings = have.standings }) bases
+back_sizes parts sizes have bases follow =
+    let laid : Laid = record { reached = have.to; standings = have.standings } in
+    ap (with_laid (sized_by parts)) (laid_of zeros parts have.standings have.to have.stand)
+    ∙ ap (based_by parts laid) (ap bases_of have.same ∙ follow)
+
+back_laid : (parts : List Piece) (sizes bases : Counters) (have : HaveSizes parts sizes) → bases_of sizes ≡ Some bases
+    → (standings : List Standing) (to : Reached) → Stand bases parts standings to → (settled : Bool)
+    → are_settled bases sizes to.counters ≡ settled
+    → program_in parts ≡ (if settled then imaged (record { reached = to; standings = standings }) (sum_in to.symbols nothing_written standings) else wrong_at Unsettled 0)
+back_laid parts sizes bases have follow standings to stand settled same =
+    let first : Laid = record { reached = have.to; standings = have.standings } in
+    let laid : Laid = record { reached = to; standings = standings } in
+    back_sizes parts sizes have (Some bases) follow
+    ∙ ap (with_laid (settled_by bases first)) (laid_of bases parts standings to stand)
+    ∙ ap (λ (settled : Bool). if settled then imaged laid (sum_after laid) else wrong_at Unsettled 0)
+    (ap (λ (counters : Counters). are_settled bases counters to.counters) have.same ∙ same)
+
+of_say : (parts : List Piece) (image : Image) → Say parts image → program_in parts ≡ Ok image
+of_say parts image say =
+    let laid : Laid = record { reached = say.to; standings = say.standings } in
+    let s = say.settle in
+    back_laid parts s.sizes s.bases s.have_sizes s.follow say.standings say.to s.stand true s.same
+    ∙ ap (imaged laid) (writes_sum say.to.symbols nothing_written say.standings say.writings say.write)
+    ∙ (λ i. image_ok (sym say.code i) (sym say.numbers i) (sym say.symbols i))
 
 of_have : (parts : List Piece) (fault : Fault) → HaveFault parts fault → program_in parts ≡ Err fault
-of_have parts fault (inl cant) =
-    let none : 0 + length cant.before ≡ length cant.before = omega arith in
-    ap program_by (ap (laid_in 0 nothing_laid) (sym cant.all)
-    ∙ fails_laid 0 begins cant.from [] cant.before cant.part cant.behind fault cant.lead (ap (λ (k : ℕ). step k cant.from cant.part) none ∙ cant.fails))
-of_have parts fault (inr cant) =
-    let standings = cant.before ++ cant.one ∷ cant.behind in
+of_have parts fault (inl cant) = ap (with_laid (sized_by parts)) (cant_laid zeros parts fault cant)
+of_have parts fault (inr (inl full)) =
+    back_sizes parts full.sizes full.have_sizes None full.none ∙ ap Err (sym full.is)
+of_have parts fault (inr (inr (inl cant))) =
+    let first : Laid = record { reached = cant.have_sizes.to; standings = cant.have_sizes.standings } in
+    back_sizes parts cant.sizes cant.have_sizes (Some cant.bases) cant.follow
+    ∙ ap (with_laid (settled_by cant.bases first)) (cant_laid cant.bases parts fault cant.cant)
+of_have parts fault (inr (inr (inr (inl differ)))) =
+    back_laid parts differ.sizes differ.bases differ.have_sizes differ.follow differ.standings differ.to differ.stand false differ.differ ∙ ap Err (sym differ.is)
+of_have parts fault (inr (inr (inr (inr cant)))) =
+    let standings : List Standing = cant.before ++ cant.one ∷ cant.behind in
     let laid : Laid = record { reached = cant.to; standings = standings } in
-    ap program_by (laid_of parts standings cant.to cant.stand)
+    let s = cant.settle in
+    back_laid parts s.sizes s.bases s.have_sizes s.follow standings cant.to s.stand true s.same
     ∙ ap (imaged laid) (misses_sum cant.to.symbols nothing_written cant.before cant.one cant.behind cant.writings fault cant.write cant.fails)
 
 -- ---- texts

@@ -1,7 +1,8 @@
 -- What a program's text says.
-use Rattle.std.specs.Prelude.{◌≡◌, ◌⊎◌, ℕ, suc, List, [], ◌∷◌, ◌++◌, length, map, Result, Ok, Err}
+use Rattle.std.specs.Prelude.{◌≡◌, ◌⊎◌, ℕ, suc, true, false, List, [], ◌∷◌, ◌++◌, length, map, Some, None, Result, Ok, Err}
 use Rattle.std.specs.List.{flat_map}
 use Rattle.asm_expressions.specs.declared.faults.Fault.{Fault}
+use Rattle.asm_expressions.specs.declared.faults.Wrong.TheVariants.{Backwards, Unsettled}
 use Rattle.asm_expressions.specs.Symbols.{Named, named_of}
 use Rattle.asm_tokens.specs.Places.{place_in}
 use Rattle.asm_tokens.specs.Readings.{AreTokens, IsFault, TokenSpot}
@@ -13,8 +14,10 @@ use Rattle.asm_program.specs.declared.assemble.ProgramWrong.{ProgramWrong}
 use Rattle.asm_program.specs.declared.assemble.ProgramWrong.TheVariants.{InText, InStatement}
 use Rattle.asm_program.specs.declared.code.Line.{Line}
 use Rattle.asm_program.specs.declared.data.Datum.{Datum}
+use Rattle.asm_program.specs.declared.sections.Counters.{Counters}
 use Rattle.asm_program.specs.Layout.{Reached, Standing, begins, standing, step}
 use Rattle.asm_program.specs.Parts.{Piece, parts_of}
+use Rattle.asm_program.specs.Sections.{are_settled, bases_of, zeros}
 use Rattle.asm_program.specs.Written.{Writing, data_in, lines_in, written}
 
 -- instructions and data at their addresses, and the symbols
@@ -39,10 +42,26 @@ LeadTo number from (one ∷ more) to =
     (one ≡ standing number from one.part) × (next : Reached) × (step number from one.part ≡ Ok next)
     × LeadTo (suc number) next more to
 
--- These parts stand here, from address 0 on.
-pub record Stand (parts : List Piece) (standings : List Standing) (to : Reached) : Type 0 where
+-- These parts stand here, and reach so far, where sections begin at these bases.
+pub record Stand (bases : Counters) (parts : List Piece) (standings : List Standing) (to : Reached) : Type 0 where
   pub all : map (λ one. one.part) standings ≡ parts
-  pub lead : LeadTo 0 begins standings to
+  pub lead : LeadTo 0 (begins bases) standings to
+
+-- Sections with these parts have these sizes: so far they reach where each begins at 0.
+pub record HaveSizes (parts : List Piece) (sizes : Counters) : Type 0 where
+  pub standings : List Standing
+  pub to : Reached
+  pub stand : Stand zeros parts standings to
+  pub same : to.counters ≡ sizes
+
+-- Parts stand where each section begins behind the one before it, and has there the same size.
+pub record Settle (parts : List Piece) (standings : List Standing) (to : Reached) : Type 0 where
+  pub sizes : Counters
+  pub bases : Counters
+  pub have_sizes : HaveSizes parts sizes
+  pub follow : bases_of sizes ≡ Some bases
+  pub stand : Stand bases parts standings to
+  pub same : are_settled bases sizes to.counters ≡ true
 
 -- each part writes this, when it sees all symbols
 abbrev pub Write : List Named → List Standing → List Writing → Type 0
@@ -53,21 +72,50 @@ pub record Say (parts : List Piece) (image : Image) : Type 0 where
   pub standings : List Standing
   pub to : Reached
   pub writings : List Writing
-  pub stand : Stand parts standings to
+  pub settle : Settle parts standings to
   pub symbols : image.symbols ≡ to.symbols
   pub write : Write to.symbols standings writings
   pub code : image.code ≡ flat_map lines_in writings
   pub numbers : image.numbers ≡ flat_map data_in writings
 
+-- ---- faults
+
 -- A part that can't stand behind those before it, which do.
-pub record CantStand (parts : List Piece) (fault : Fault) : Type 0 where
+pub record CantStand (bases : Counters) (parts : List Piece) (fault : Fault) : Type 0 where
   pub before : List Standing
   pub from : Reached
   pub part : Piece
   pub behind : List Piece
   pub all : map (λ one. one.part) before ++ part ∷ behind ≡ parts
-  pub lead : LeadTo 0 begins before from
+  pub lead : LeadTo 0 (begins bases) before from
   pub fails : step (length before) from part ≡ Err fault
+
+-- Sections that are too large together.
+pub record HaveNoRoom (parts : List Piece) (fault : Fault) : Type 0 where
+  pub sizes : Counters
+  pub have_sizes : HaveSizes parts sizes
+  pub none : bases_of sizes ≡ None
+  pub is : fault ≡ record { wrong = Backwards; left = 0 }
+
+-- A part that can't stand where sections stand one behind the other.
+pub record CantFollow (parts : List Piece) (fault : Fault) : Type 0 where
+  pub sizes : Counters
+  pub bases : Counters
+  pub have_sizes : HaveSizes parts sizes
+  pub follow : bases_of sizes ≡ Some bases
+  pub cant : CantStand bases parts fault
+
+-- Sections that have another size where they stand one behind the other.
+pub record DontSettle (parts : List Piece) (fault : Fault) : Type 0 where
+  pub sizes : Counters
+  pub bases : Counters
+  pub standings : List Standing
+  pub to : Reached
+  pub have_sizes : HaveSizes parts sizes
+  pub follow : bases_of sizes ≡ Some bases
+  pub stand : Stand bases parts standings to
+  pub differ : are_settled bases sizes to.counters ≡ false
+  pub is : fault ≡ record { wrong = Unsettled; left = 0 }
 
 -- Parts that all stand, and the first of them that can't be written.
 pub record CantWrite (parts : List Piece) (fault : Fault) : Type 0 where
@@ -76,13 +124,15 @@ pub record CantWrite (parts : List Piece) (fault : Fault) : Type 0 where
   pub behind : List Standing
   pub to : Reached
   pub writings : List Writing
-  pub stand : Stand parts (before ++ one ∷ behind) to
+  pub settle : Settle parts (before ++ one ∷ behind) to
   pub write : Write to.symbols before writings
   pub fails : written to.symbols one ≡ Err fault
 
--- The first fault of parts: of one that can't stand; or if all can, of one that can't be written.
+-- The first fault of parts: of one that can't stand where each section begins at 0; or of the sections together; or of one that
+-- can't stand behind the other sections; or if all can, of one that can't be written.
 abbrev pub HaveFault : List Piece → Fault → Type 0
-HaveFault parts fault = CantStand parts fault ⊎ CantWrite parts fault
+HaveFault parts fault =
+    CantStand zeros parts fault ⊎ (HaveNoRoom parts fault ⊎ (CantFollow parts fault ⊎ (DontSettle parts fault ⊎ CantWrite parts fault)))
 
 -- ---- texts
 

@@ -2,7 +2,9 @@
 use Rattle.std.specs.Prelude.{ℕ, Bool, true, false, ◌||◌, if◌then◌else◌, List, [], ◌∷◌, codes, map, Option, Some, None}
 use Rattle.std.specs.Str.{bytes_eq}
 use Rattle.asm_program.specs.declared.directives.Directive.{Directive}
-use Rattle.asm_program.specs.declared.directives.Directive.TheVariants.{Equ, Org, Data, Space, Align, Balign, Passed}
+use Rattle.asm_program.specs.declared.directives.Directive.TheVariants.{Equ, Org, Data, Space, Align, Balign, Enter, Named, Common, Passed}
+use Rattle.asm_program.specs.declared.sections.Section.TheVariants as sections
+use Rattle.asm_tokens.specs.Numbers.{begins_with}
 use Rattle.asm_program.specs.declared.directives.TheConstants.{PASSED}
 
 -- the number of bytes of a number of a directive
@@ -30,8 +32,14 @@ other_directive word =
     else (if bytes_eq word (codes ".zero") || bytes_eq word (codes ".space") || bytes_eq word (codes ".skip") then Some Space
     else (if bytes_eq word (codes ".align") || bytes_eq word (codes ".p2align") then Some Align
     else (if bytes_eq word (codes ".balign") then Some Balign
-    else (if is_passed word then Some Passed
-    else None)))))
+    else (if bytes_eq word (codes ".text") then Some (Enter sections.Text)
+    else (if bytes_eq word (codes ".rodata") then Some (Enter sections.Rodata)
+    else (if bytes_eq word (codes ".data") then Some (Enter sections.Data)
+    else (if bytes_eq word (codes ".bss") then Some (Enter sections.Bss)
+    else (if bytes_eq word (codes ".section") then Some Named
+    else (if bytes_eq word (codes ".comm") || bytes_eq word (codes ".lcomm") then Some Common
+    else (if is_passed word || begins_with (codes ".cfi_") word then Some Passed
+    else None)))))))))))
 
 abbrev pub data_or : (word : List ℕ) → Option ℕ → Option Directive
 data_or word None = other_directive word

@@ -1,4 +1,5 @@
 pub mod Parts
+pub mod Sections
 pub mod Directives
 pub mod Forms
 pub mod Moves

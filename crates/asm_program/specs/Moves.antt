@@ -9,7 +9,7 @@ use Rattle.asm_mnemonics.specs.declared.forms.OperandForm.{OperandForm}
 use Rattle.asm_tokens.specs.Readings.{TokenSpot}
 use Rattle.asm_tokens.specs.Statements.{is_comma}
 use Rattle.asm_program.specs.declared.directives.Directive.{Directive}
-use Rattle.asm_program.specs.declared.directives.Directive.TheVariants.{Equ, Org, Data, Space, Align, Balign, Passed}
+use Rattle.asm_program.specs.declared.directives.Directive.TheVariants.{Data, Space, Align, Balign}
 
 -- the address behind so many pieces of a size, within the address space
 abbrev pub moved_by : (here size count left : ℕ) → Result ℕ Fault
@@ -35,22 +35,20 @@ abbrev pub number_count : List TokenSpot → ℕ
 number_count [] = 0
 number_count (placed ∷ tokens) = commas (placed ∷ tokens) + 1
 
--- an address that isn't lower than where it stands
-abbrev pub behind_org : Context → (left : ℕ) → List TokenSpot → Result ℕ Fault
-behind_org scope left operands =
-    with_value (value_of scope operands) (λ to. if nat_lt to scope.here then wrong_at Backwards left else Ok to)
+-- an address that isn't lower than that behind the `.org` before
+abbrev pub behind_org : Context → (before left : ℕ) → List TokenSpot → Result ℕ Fault
+behind_org scope before left operands =
+    with_value (value_of scope operands) (λ to. if nat_lt to before then wrong_at Backwards left else Ok to)
 
 -- The address behind a directive that moves on.
 abbrev pub behind_directive : Context → Directive → (left : ℕ) → List TokenSpot → Result ℕ Fault
-behind_directive scope Equ left operands = Ok scope.here
-behind_directive scope Passed left operands = Ok scope.here
-behind_directive scope Org left operands = behind_org scope left operands
 behind_directive scope (Data size) left operands = moved_by scope.here size (number_count operands) left
 behind_directive scope Space left operands = with_value (value_of scope operands) (λ size. moved_by scope.here 1 size left)
 behind_directive scope Align left operands =
     with_value (value_of scope operands)
     (λ bits. if nat_le 64 bits then wrong_at OutOfRange left else up_to scope.here (2 ^ bits) left)
 behind_directive scope Balign left operands = with_value (value_of scope operands) (λ size. up_to scope.here size left)
+behind_directive scope directive left operands = Ok scope.here
 
 -- The address behind an instruction, which takes 4 bytes for each that the assembler writes.
 abbrev pub behind_instruction : Context → OperandForm → (left : ℕ) → List TokenSpot → Result ℕ Fault

@@ -9,9 +9,11 @@ ghost use Rattle.asm_tokens.specs.Readings.{AreTokens, spots_of};
 
 use crate::code::Line;
 use crate::data::Datum;
+use crate::forms::fault;
 use crate::layout::lay_out;
 use crate::output::write_all;
 use crate::parts::parts;
+use crate::sections::Counters;
 use crate::stop::Stop;
 use asm_expressions::{Symbol, Wrong};
 use asm_tokens::{BadText, Placed, TextPlace, TokensFault, place_at, read_tokens};
@@ -112,7 +114,14 @@ fn assemble<'a>(alloc: Global, tokens: &[Placed<'a>]) -> Result<Program<'a>, Sto
     ensures fault { IfErr result (StopsAt (program_in (parts_of (spots_of tokens.now)))) }
 {
     let parts = parts(alloc, tokens)?;
-    let layout = lay_out(alloc, parts.as_slice())?;
+    let sizes = lay_out(alloc, Counters::zero(), parts.as_slice())?;
+    let Some(bases) = sizes.counters.bases() else {
+        return Err(Stop::At(fault(Wrong::Backwards, 0)));
+    };
+    let layout = lay_out(alloc, bases, parts.as_slice())?;
+    if !layout.counters.are_settled(&bases, &sizes.counters) {
+        return Err(Stop::At(fault(Wrong::Unsettled, 0)));
+    }
     let output = write_all(
         alloc,
         layout.symbols.as_slice(),

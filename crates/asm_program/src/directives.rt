@@ -2,6 +2,8 @@
 ghost use Rattle.std.specs.Prelude.{◌≡◌, map};
 ghost use Rattle.asm_program.specs.Directives.{data_size, directive_of, is_among, is_passed};
 
+use crate::sections::Section;
+
 /// A directive.
 #[derive(Clone, Copy, Debug, PartialEq, Eq)]
 pub(crate) enum Directive {
@@ -17,6 +19,12 @@ pub(crate) enum Directive {
     Align,
     /// `.balign`: up to a multiple.
     Balign,
+    /// `.text`, `.rodata`, `.data` and `.bss`: what follows belongs to this section.
+    Enter(Section),
+    /// `.section`: what follows belongs to the section that the operand names.
+    Named,
+    /// `.comm` and `.lcomm`: a symbol, and so many bytes in `.bss`.
+    Common,
     /// One that says nothing here.
     Passed,
 }
@@ -43,7 +51,25 @@ pub(crate) fn directive_of(word: &[u8]) -> Option<Directive>
     if word == b".balign".as_slice() {
         return Some(Directive::Balign);
     }
-    if is_passed(word) {
+    if word == b".text".as_slice() {
+        return Some(Directive::Enter(Section::Text));
+    }
+    if word == b".rodata".as_slice() {
+        return Some(Directive::Enter(Section::Rodata));
+    }
+    if word == b".data".as_slice() {
+        return Some(Directive::Enter(Section::Data));
+    }
+    if word == b".bss".as_slice() {
+        return Some(Directive::Enter(Section::Bss));
+    }
+    if word == b".section".as_slice() {
+        return Some(Directive::Named);
+    }
+    if word == b".comm".as_slice() || word == b".lcomm".as_slice() {
+        return Some(Directive::Common);
+    }
+    if is_passed(word) || word.starts_with(b".cfi_") {
         return Some(Directive::Passed);
     }
     None
@@ -100,5 +126,5 @@ pub(crate) const PASSED: [&[u8]; 11] = [
     b".ident",
     b".file",
     b".loc",
-    b".text",
+    b".local",
 ];

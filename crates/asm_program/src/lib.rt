@@ -3,6 +3,7 @@
 #![tactic(auto)]
 
 mod assemble;
+mod changes;
 mod code;
 mod data;
 mod directives;
@@ -12,6 +13,7 @@ mod layout;
 mod moves;
 mod output;
 mod parts;
+mod sections;
 mod stop;
 
 pub use assemble::{AssemblyError, Program, ProgramFault, ProgramWrong, assemble_text};

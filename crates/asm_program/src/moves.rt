@@ -34,8 +34,6 @@ pub(crate) fn behind_directive(
     ensures { result ≡ behind_directive (context_of scope.now) directive left (spots_of operands.now) }
 {
     match directive {
-        Directive::Equ | Directive::Passed => Ok(scope.here),
-        Directive::Org => behind_org(scope, left, operands),
         Directive::Data(size) => { moved_by(scope.here, size, number_count(operands), left) }
         Directive::Space => {
             let size = value_of(scope, operands)?;
@@ -52,22 +50,28 @@ pub(crate) fn behind_directive(
             let size = value_of(scope, operands)?;
             up_to(scope.here, size, left)
         }
+        _ => Ok(scope.here),
     }
 }
 
-/// `.org ADDRESS`, which doesn't go back.
-fn behind_org(scope: &Scope<'_, '_>, left: usize, operands: &[Placed<'_>]) -> Result<u64, Fault>
-    ensures { result ≡ behind_org (context_of scope.now) left (spots_of operands.now) }
+/// `.org ADDRESS`, which doesn't go back; `before` is the address behind the one before.
+pub(crate) fn behind_org(
+    scope: &Scope<'_, '_>,
+    before: u64,
+    left: usize,
+    operands: &[Placed<'_>],
+) -> Result<u64, Fault>
+    ensures { result ≡ behind_org (context_of scope.now) before left (spots_of operands.now) }
 {
     let to = value_of(scope, operands)?;
-    if to < scope.here {
+    if to < before {
         return Err(fault(Wrong::Backwards, left));
     }
     Ok(to)
 }
 
 /// The address behind so many pieces of this size.
-fn moved_by(here: u64, size: u64, count: u64, left: usize) -> Result<u64, Fault>
+pub(crate) fn moved_by(here: u64, size: u64, count: u64, left: usize) -> Result<u64, Fault>
     ensures { result ≡ moved_by here size count left }
 {
     match size.checked_mul(count) {
@@ -80,7 +84,7 @@ fn moved_by(here: u64, size: u64, count: u64, left: usize) -> Result<u64, Fault>
 }
 
 /// The next multiple; of 0 the address itself.
-fn up_to(here: u64, size: u64, left: usize) -> Result<u64, Fault>
+pub(crate) fn up_to(here: u64, size: u64, left: usize) -> Result<u64, Fault>
     ensures { result ≡ up_to here size left }
 {
     if size == 0 || here % size == 0 {

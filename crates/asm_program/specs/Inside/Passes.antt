@@ -1,7 +1,10 @@
 -- The assembler's two passes over the parts: where each stands, and then what each writes. No promise rests on these definitions.
-use Rattle.std.specs.Prelude.{◌≡◌, ℕ, suc, List, [], ◌∷◌, ◌++◌, map, Result, Ok, Err}
+use Rattle.std.specs.Prelude.{◌≡◌, ℕ, suc, if◌then◌else◌, List, [], ◌∷◌, ◌++◌, map, Option, Some, None, Result, Ok, Err}
 use Rattle.asm_expressions.specs.declared.faults.Fault.{Fault}
+use Rattle.asm_expressions.specs.declared.faults.Wrong.TheVariants.{Backwards, Unsettled}
+use Rattle.asm_expressions.specs.declared.symbols.Symbol.{Symbol}
 use Rattle.asm_expressions.specs.Symbols.{Named, named_of}
+use Rattle.asm_expressions.specs.Values.{wrong_at}
 use Rattle.asm_tokens.specs.declared.reader.TokensFault.{TokensFault}
 use Rattle.asm_tokens.specs.declared.reader.TokensFault.TheVariants as reads
 use Rattle.asm_tokens.specs.Places.{place_in}
@@ -11,17 +14,19 @@ use Rattle.asm_program.specs.declared.assemble.AssemblyError.TheVariants as erro
 use Rattle.asm_program.specs.declared.assemble.ProgramWrong.TheVariants.{InText, InStatement}
 use Rattle.asm_program.specs.declared.code.Line.{Line}
 use Rattle.asm_program.specs.declared.data.Datum.{Datum}
-use Rattle.asm_program.specs.declared.layout.Change.{Change}
-use Rattle.asm_program.specs.declared.layout.Change.TheVariants as changes
+use Rattle.asm_program.specs.declared.changes.Change.{Change}
+use Rattle.asm_program.specs.declared.changes.Change.TheVariants as changes
 use Rattle.asm_program.specs.declared.layout.Layout.{Layout}
 use Rattle.asm_program.specs.declared.layout.Statement.{Statement}
 use Rattle.asm_program.specs.declared.output.Output.{Output}
+use Rattle.asm_program.specs.declared.sections.Counters.{Counters}
 use Rattle.asm_program.specs.declared.stop.Stop.{Stop}
 use Rattle.asm_program.specs.declared.stop.Stop.TheVariants as stops
 use Rattle.asm_program.specs.Assembles.{Image}
 use Rattle.asm_program.specs.Layout.{Changing, Reached, Standing, begins, standing, step}
-use Rattle.asm_program.specs.Layout.Changing.{Stays, Moves, Defines}
+use Rattle.asm_program.specs.Layout.Changing.{Stays, Moves, Goes, Defines, Reserves}
 use Rattle.asm_program.specs.Parts.{Piece, piece_of}
+use Rattle.asm_program.specs.Sections.{are_settled, bases_of, zeros}
 use Rattle.asm_program.specs.Written.{Writing, written}
 use Rattle.asm_program.specs.Written.Writing.{Blank, Lines, Numbers}
 
@@ -30,11 +35,17 @@ use Rattle.asm_program.specs.Written.Writing.{Blank, Lines, Numbers}
 abbrev pub changing_of : Change → Changing
 changing_of changes.Stays = Stays
 changing_of (changes.Moves next) = Moves next
+changing_of (changes.Goes section next) = Goes section next
 changing_of (changes.Defines symbol) = Defines (named_of symbol)
+changing_of (changes.Reserves symbol next) = Reserves (named_of symbol) next
 
 abbrev pub change_of : Result Change Fault → Result Changing Fault
 change_of (Ok change) = Ok (changing_of change)
 change_of (Err fault) = Err fault
+
+abbrev pub named_result : Result Symbol Fault → Result Named Fault
+named_result (Ok symbol) = Ok (named_of symbol)
+named_result (Err fault) = Err fault
 
 abbrev pub standing_of : Statement → Standing
 standing_of statement =
@@ -53,12 +64,16 @@ pub record Laid : Type 0 where
 
 abbrev pub laid_of : Layout → Laid
 laid_of layout = record {
-  reached = record { here = layout.here; symbols = map named_of layout.symbols.items };
+  reached = record {
+    section = layout.section;
+    counters = layout.counters;
+    symbols = map named_of layout.symbols.items;
+  };
   standings = map standing_of layout.statements.items;
 }
 
-abbrev pub nothing_laid : Laid
-nothing_laid = record { reached = begins; standings = [] }
+abbrev pub nothing_laid : (bases : Counters) → Laid
+nothing_laid bases = record { reached = begins bases; standings = [] }
 
 abbrev pub with_one : List Standing → Standing → Result Reached Fault → Result Laid Fault
 with_one before one (Err fault) = Err fault
@@ -118,13 +133,25 @@ abbrev pub imaged : Laid → Result Sum Fault → Result Image Fault
 imaged laid (Err fault) = Err fault
 imaged laid (Ok sum) = Ok (record { code = sum.code; numbers = sum.numbers; symbols = laid.reached.symbols })
 
-abbrev pub program_by : Result Laid Fault → Result Image Fault
-program_by (Err fault) = Err fault
-program_by (Ok laid) = imaged laid (sum_after laid)
+abbrev pub settled_by : (bases : Counters) → (sizes laid : Laid) → Result Image Fault
+settled_by bases sizes laid =
+    if are_settled bases sizes.reached.counters laid.reached.counters then imaged laid (sum_after laid)
+    else wrong_at Unsettled 0
+
+abbrev pub with_laid : (Laid → Result Image Fault) → Result Laid Fault → Result Image Fault
+with_laid then_by (Err fault) = Err fault
+with_laid then_by (Ok laid) = then_by laid
+
+abbrev pub based_by : List Piece → (sizes : Laid) → Option Counters → Result Image Fault
+based_by parts sizes None = wrong_at Backwards 0
+based_by parts sizes (Some bases) = with_laid (settled_by bases sizes) (laid_in 0 (nothing_laid bases) parts)
+
+abbrev pub sized_by : List Piece → (sizes : Laid) → Result Image Fault
+sized_by parts sizes = based_by parts sizes (bases_of sizes.reached.counters)
 
 -- what the passes make of parts
 abbrev pub program_in : List Piece → Result Image Fault
-program_in parts = program_by (laid_in 0 nothing_laid parts)
+program_in parts = with_laid (sized_by parts) (laid_in 0 (nothing_laid zeros) parts)
 
 -- ---- why a text isn't assembled
 

@@ -5,4 +5,4 @@ use Rattle.asm_program.proofs.layout.lay_out.Given as goal
 
 abbrev pub invariant-loop-i : goal.invariant-loop-i
 invariant-loop-i l =
-    laid_in l.i (laid_of l.layout) (map piece_of (drop l.i l.parts)) ≡ laid_in 0 nothing_laid (map piece_of l.parts)
+    laid_in l.i (laid_of l.layout) (map piece_of (drop l.i l.parts)) ≡ laid_in 0 (nothing_laid l.bases) (map piece_of l.parts)
