@@ -88,6 +88,8 @@ def assembly(source, folder):
 def reference(text, folder):
     """Bytes from START on, as GNU as and ld make them."""
     source = text.replace(f"        .org {START:#x}\n", '        .option norelax\n        .option norvc\n        .section .first, "ax"\n')
+    # GNU as wants these lines before any instruction
+    source = "".join(line for line in source.splitlines(True) if not line.strip().startswith(".attribute"))
     with open(os.path.join(folder, "reference.s"), "w") as file:
         file.write(source)
     with open(os.path.join(folder, "script"), "w") as file:
@@ -112,13 +114,26 @@ def data_of(output):
     return found
 
 
+def differences(found, output, data):
+    """Every byte of the reference is an instruction's that agrees, a number's, or 0."""
+    words = [int.from_bytes(data[i:i + 4], "little") for i in range(0, len(data) - 3, 4)]
+    count, wrong = compared(found, words)
+    code, numbers = {at for at, _ in found}, data_of(output)
+    for i, byte in enumerate(data):
+        at = START + i
+        if at & ~3 not in code and numbers.get(at, 0) != byte:
+            wrong.append((hex(at), numbers.get(at), byte))
+    outside = [hex(at) for at in numbers if not START <= at < START + len(data)]
+    return count, len(numbers), wrong + outside
+
+
 def main(command):
     if not command:
         sys.exit(__doc__)
     if not all(shutil.which(tool) for tool in [GCC, *TOOLS]):
         print("skipped: no " + GCC)
         return 77
-    total = 0
+    total = bytes_seen = 0
     with tempfile.TemporaryDirectory() as folder:
         for name, source in PROGRAMS.items():
             text = f"        .org {START:#x}\n        ebreak\n" + assembly(source, folder)
@@ -126,15 +141,15 @@ def main(command):
             found, output = listed(command, text, folder)
             if not found:
                 sys.exit(f"{name}: nothing was listed: {output[-500:]}\n{text}")
-            words = [int.from_bytes(data[i:i + 4], "little") for i in range(0, len(data) - 3, 4)]
-            count, wrong = compared(found, words)
-            wrong += [(hex(at), byte, data[at - START]) for at, byte in data_of(output).items() if data[at - START] != byte]
+            count, numbers, wrong = differences(found, output, data)
             for difference in wrong[:20]:
                 print(*difference)
             if wrong:
                 sys.exit(f"{name}: {len(wrong)} differences")
-            total += count
-    print(f"{total} instructions that gcc wrote agree")
+            total, bytes_seen = total + count, bytes_seen + numbers
+    if not bytes_seen:
+        sys.exit("no data was compared")
+    print(f"{total} instructions that gcc wrote agree, and {bytes_seen} bytes of data")
     return 0
 
 

@@ -1,4 +1,4 @@
-        .org    0x80000000
+        .org    0x40000000
 boot:   li      a7, 0x48534d
         la      a1, second
         ld      t0, flag
@@ -17,7 +17,7 @@ second: lui     a0, %hi(flag)
         addi    a0, a0, %lo(flag)
         li      a0, (1 + 2) * 3 << 4 | ~0 & 0x0f
         ebreak
-        .org    0x80001000
+        .org    0x40001000
 flag:   .dword  1, -1, second - boot
         .byte   1, 2
         .p2align 3
