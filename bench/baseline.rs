@@ -14,7 +14,7 @@
 //! a condvar, take views, choose and rest as the program's do. A run's end is read off what the threads have left to do, where
 //! the program goes through the history. `bench/run.py` times both.
 //!
-//! `lock HARTS CALLS sip|ipi` does what `lock_rows` does with such words: so many of eight harts make so many calls each on
+//! `lock HARTS CALLS sip|ipi` does what `thread_rows locks` does with such words: so many of eight harts make so many calls each on
 //! a board behind a lock. `bench/lock.py` times both.
 //!
 //! `orders FILE TIMES JOBS` does what `sbiboard test` does with the program of `bench/orders.py`: it tries so many orders on so

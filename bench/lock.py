@@ -3,7 +3,7 @@
 
 usage: bench/lock.py [--runs N] [--calls N] [--threads N,..] [--instructions] [PROGRAM]
 
-PROGRAM is a built `lock_rows` (default: the one of this checkout, which is proved and built first where that is needed, by
+PROGRAM is a built `thread_rows` (default: the one of this checkout, which is proved and built first where that is needed, by
 `rt run`); plain Rust is `bench/baseline.rs`, whose board stands behind std::sync::Mutex, with a condvar, seats and receipts
 that are made as ours are (`bench/baseline/lock.rs`). Both open a board of eight harts, start all, and then have so many of
 them make --calls calls in sum (default 800,000), each on a thread of its own: they read sip, or send IPIs to all harts. A
@@ -25,8 +25,8 @@ import tempfile
 
 from replay import HUGE_PAGES, ROOT, plain_rust
 
-CRATE = os.path.join(ROOT, "crates/lock_rows")
-BUILT = os.path.join(CRATE, "out/lock_rows")
+CRATE = os.path.join(ROOT, "crates/thread_rows")
+BUILT = os.path.join(CRATE, "out/thread_rows")
 WORKLOADS = (("sip", "reads of sip"), ("ipi", "IPIs to all harts"))
 # Events that start eight harts.
 STARTS = 15
@@ -56,7 +56,7 @@ def seconds(command, calls):
 
 def commands(program, plain, threads, calls, op):
     words = [str(threads), str(calls // threads), op]
-    return [program, *words], [plain, "lock", *words]
+    return [program, "locks", *words], [plain, "lock", *words]
 
 
 def speeds(pair, calls, runs):
@@ -97,7 +97,7 @@ def numbers(text):
 
 def options():
     parser = argparse.ArgumentParser(description="Times calls on a board behind a lock beside plain Rust.")
-    parser.add_argument("program", nargs="?", help="a built lock_rows")
+    parser.add_argument("program", nargs="?", help="a built thread_rows")
     parser.add_argument("--runs", type=int, default=9, help="how many runs of each, of which the median counts")
     parser.add_argument("--calls", type=int, default=800_000, help="how many calls in sum, at most 999,985")
     parser.add_argument("--threads", type=numbers, default=[1, 2, 4, 8], help="as 1,2,4,8 (the default)")

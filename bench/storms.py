@@ -3,7 +3,7 @@
 
 usage: bench/storms.py [--runs N] [PROGRAM]
 
-PROGRAM is a built `lock_rows` (default: the one that `rt ci` leaves). It takes N runs (default 1,000), one after
+PROGRAM is a built `thread_rows` (default: the one that `rt ci` leaves). It takes N runs (default 1,000), one after
 another, each with a time limit of a minute that only a hang meets. In each, threads of their own make the steps of up to
 128 harts and the clock on one locked board: storms of IPIs, fences of all by all, rests that end. The rows look up each
 receipt in the closed record, and make the record's steps again on a new board; what they print doesn't depend on the order
@@ -16,13 +16,13 @@ import sys
 import time
 
 ROOT = os.path.dirname(os.path.dirname(os.path.abspath(__file__)))
-CRATE = os.path.join(ROOT, "crates/lock_rows")
+CRATE = os.path.join(ROOT, "crates/thread_rows")
 
 
 def failure(program, wanted):
     """Why a run is none that must be; None for a good one."""
     try:
-        run = subprocess.run([program], stdin=subprocess.DEVNULL, capture_output=True, timeout=60)
+        run = subprocess.run([program, "locks"], stdin=subprocess.DEVNULL, capture_output=True, timeout=60)
     except subprocess.TimeoutExpired:
         return "no end after a minute"
     if run.returncode != 0:
@@ -33,12 +33,14 @@ def failure(program, wanted):
 def main():
     words = argparse.ArgumentParser(usage="%(prog)s [--runs N] [PROGRAM]")
     words.add_argument("--runs", type=int, default=1000)
-    words.add_argument("program", nargs="?", default=os.path.join(CRATE, "out/lock_rows"))
+    words.add_argument("program", nargs="?", default=os.path.join(CRATE, "out/thread_rows"))
     chosen = words.parse_args()
     if not os.path.exists(chosen.program):
         sys.exit(f"{chosen.program} isn't built: rt ci leaves it")
     with open(os.path.join(CRATE, "stdout"), "rb") as file:
-        wanted = file.read()
+        text = file.read()
+    # (the rows of the lock stand between two lines that are names of parts)
+    wanted = text[text.index(b"locks\n") : text.index(b"memory\n")]
     passed, failed, began = 0, 0, time.monotonic()
     for run in range(chosen.runs):
         why = failure(chosen.program, wanted)

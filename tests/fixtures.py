@@ -42,6 +42,18 @@ def program_of(crate):
     return os.path.join(ROOT, "crates", crate, "out", crate)
 
 
+# The parts of programs of rows whose first line is their name, and whose word shows them alone.
+PARTS = ("locks", "memory", "threads")
+
+
+def rows_of(crate, part):
+    """What a program of rows must print of a part."""
+    lines = read(os.path.join(ROOT, "crates", crate, "stdout")).splitlines()
+    begin = lines.index(part)
+    end = next((at for at, it in enumerate(lines) if at > begin and it in PARTS), len(lines))
+    return lines[begin:end]
+
+
 # The program, and the one behind `sbiboard test` and `sbiboard explore`.
 PROGRAM, TESTER = program_of("sbiboard_cli"), program_of("sbiboard_test")
 

@@ -132,7 +132,15 @@ class Judged:
     """Runs whose verdicts are known: `found` has the faults of seeds, and all runs try the same functions."""
 
     def __init__(self, found, tried):
-        self.found, self.tried, self.seen = found, tried, []
+        self.found, self.tried, self.seen, self.reduced, self.is_stopped = found, tried, [], [], False
+
+    def stop(self):
+        self.is_stopped = True
+
+    def smaller(self, verdict, key, most):
+        """Half of the operations show the first fault, and none fewer the others."""
+        self.reduced.append((verdict.asked.seed, key, most))
+        return self.run(verdict.asked.but(checks=0, kept=verdict.asked.all()[::2])) if len(self.reduced) == 1 else verdict
 
     def run(self, asked):
         self.seen.append(asked.seed)
@@ -215,7 +223,7 @@ class FuzzFirmware(Test):
             must(f"of two runs: status {found.returncode}, not {status}, and it said {found.stdout} {found.stderr}", found.returncode == status)
         none, image = os.path.join(self.room, "none"), write(os.path.join(self.room, "image"), "another image")
         files = [[name, none] for name in ("--bios", "--image", "--read")] + [["--image", image, "--write", none], ["--image", image, "--keep", os.path.join(image, "in it")]]
-        for wrong in (["--seeds", "5-4"], ["--seeds", "1", "--harts", "9"], ["--seeds", "1", "--operations", "0"], *(["--seeds", "1", *it] for it in files)):
+        for wrong in (["--seeds", "5-4"], ["--seeds", "1", "--harts", "9"], ["--seeds", "1", "--operations", "0"], ["--seeds", "1", "--jobs", "0"], *(["--seeds", "1", *it] for it in files)):
             found = subprocess.run([TOOL, *wrong], stdin=subprocess.DEVNULL, capture_output=True, text=True, timeout=60)
             must(f"{wrong}: {found}", found.returncode == 1 and found.stderr.startswith("fuzz-firmware: ") and found.stderr.count("\n") == 1)
 
@@ -272,7 +280,7 @@ class FuzzFirmware(Test):
             ("1-4", {2: [one], 4: [one, other]}, every, 5, ["faults: 2", f"  2 seeds: {one[0]}: {one[1]}; the first is 2: line 2", f"  1 seeds: {other[0]}: {other[1]}; the first is 4: line 4"]),
             ("4-4", {4: [other]}, Counter(), 5, ["faults: 1", f"  1 seeds: {other[0]}: {other[1]}; the first is 4: line 4", "never tried: hart_start"]),
         ):  # fmt: skip
-            runs, given = Judged(found, tried), argparse.Namespace(seeds=fuzz.seeds(words), harts=4, operations=40, checks=6, ticks=5, uart=6, runs=0, keep=self.room, every=False, gdb=False)
+            runs, given = Judged(found, tried), argparse.Namespace(seeds=fuzz.seeds(words), harts=4, operations=40, checks=6, ticks=5, uart=6, jobs=1, runs=0, keep=self.room, every=False, gdb=False)
             with contextlib.redirect_stdout(io.StringIO()) as said:
                 ended = fuzz.fuzzed(runs, given)
             first, last = (int(it, 0) for it in (words.partition("-")[0], words.rpartition("-")[2]))
@@ -281,11 +289,68 @@ class FuzzFirmware(Test):
             must(f"{words}: {os.listdir(self.room)}", {f"seed-{seed}.record" for seed in found} == set(os.listdir(self.room)))
             for it in os.listdir(self.room):
                 os.remove(os.path.join(self.room, it))
-        # (one that is interrupted is no success, though all was tried and nothing is wrong)
+        # (one that is interrupted is no success, though all was tried and nothing is wrong; and it ends what runs)
         given.seeds, runs = fuzz.seeds("1-4"), Judged({}, every)
         with contextlib.redirect_stdout(io.StringIO()) as said, mock.patch.object(runs, "run", lambda asked, run=runs.run: fuzz.interrupted() if asked.seed == 3 else run(asked)):
             ended = fuzz.fuzzed(runs, given)
-        must(f"status {ended}, {said.getvalue()}", ended == 3 and said.getvalue().startswith("stopped in seed 3, before the end\nseeds 2, "))
+        must(f"status {ended}, {said.getvalue()}", ended == 3 and runs.is_stopped and said.getvalue().startswith("stopped in seed 3, before the end\nseeds 2, "))
+
+    def test_fuzz__the_table_stands_before_what_is_reduced(self):
+        """The first record of each fault is reduced once the table is printed, of calls that hang one; where that is interrupted, it is
+        said, and the table stands."""
+        every = Counter({function.name: 2 for function in FUNCTIONS.values()})
+        given = argparse.Namespace(seeds=fuzz.seeds("1-4"), harts=2, operations=3, checks=6, ticks=5, uart=6, jobs=1, runs=9, keep=self.room, every=False, gdb=False)
+        for is_interrupted in (False, True):
+            runs = Judged({2: [KEY], 3: [KEY, OTHER, (HANGING, "set_timer")], 4: [OTHER, (HANGING, "send_ipi")]}, every)
+            smaller = mock.patch.object(runs, "smaller", side_effect=KeyboardInterrupt) if is_interrupted else contextlib.nullcontext()
+            with contextlib.redirect_stdout(io.StringIO()) as said, smaller:
+                ended = fuzz.fuzzed(runs, given)
+            lines = said.getvalue().splitlines()
+            at = next(at for at, it in enumerate(lines) if it.startswith("seeds 4, "))
+            behind = [it for it in lines[at:] if "small" in it or "reduced" in it]
+            must(f"status {ended}, {lines}", ended == 5 and len(lines[:at]) == 4 and behind == lines[-len(behind) :])
+            if is_interrupted:
+                must(f"{behind}", behind == ["stopped before all records were reduced"])
+                continue
+            must(f"{runs.reduced}", runs.reduced == [(2, KEY, 9), (3, OTHER, 9), (3, (HANGING, "set_timer"), 9)])
+            small = f"seed 2: {KEY[0]}: {KEY[1]}: small: 3 of 6 operations (0:0 0:1 0:2), checks 0: "
+            must(f"{behind}", len(behind) == 3 and behind[0].startswith(small) and behind[1] == f"seed 3: {OTHER[0]}: {OTHER[1]}: no smaller run shows it")
+            must(f"{behind}", read(behind[0].removeprefix(small)) == "record 4\n")
+
+    def test_fuzz__seeds_side_by_side(self):
+        """With --jobs several seeds run at once, each with an image of its own, and they are told in their order."""
+        image = write(os.path.join(self.room, "image"), fuzzing.MARK + bytes(8 * len(fuzzing.FIELDS) + fuzzing.MOST_HARTS * fuzzing.MOST_OPERATIONS // 8))
+        machine, begun = os.path.join(self.room, "qemu-system-riscv64"), os.path.join(self.room, "begun")
+        os.mkdir(begun)
+        # (each waits for its neighbour's beginning, and the first of two also for the other's end; each prints the seed of its image)
+        write(machine, f"""#!/bin/bash
+seed=$(od -An -tu8 -j{len(fuzzing.MARK)} -N8 "${{@: -1}}" | tr -d ' ')
+touch {begun}/$seed
+until [ -e {begun}/$((seed % 2 ? seed + 1 : seed - 1)) ]; do sleep 0.01; done
+until [ $((seed % 2)) = 0 ] || [ -e {begun}/$((seed + 1)).over ]; do sleep 0.01; done
+[ "$seed" = "$(od -An -tu8 -j{len(fuzzing.MARK)} -N8 "${{@: -1}}" | tr -d ' ')" ] && echo "seed $seed"
+touch {begun}/$seed.over
+""")
+        os.chmod(machine, 0o755)
+        words = [TOOL, "--seeds", "5-10", "--image", image, "--jobs", "2", "--seconds", "30", "--runs", "0", "--every", "--keep", self.room]
+        found = subprocess.run(words, stdin=subprocess.DEVNULL, capture_output=True, text=True, timeout=200, env=os.environ | {"PATH": f"{self.room}:{os.environ['PATH']}"})
+        said = "  6 seeds: nothing was printed: the payload; the first is 5: the machine was switched off before the payload printed its record; the last line is 'seed 5'\n"
+        must(f"status {found.returncode}, and it said {found.stdout} {found.stderr}", found.returncode == 5 and said in found.stdout and not found.stderr)
+        must(f"{os.listdir(self.room)}", {f"seed-{seed}.record" for seed in range(5, 11)} < set(os.listdir(self.room)))
+        given = argparse.Namespace(harts=4, jobs=None)
+        for processors, harts, jobs in ((4, 4, 1), (8, 4, 2), (11, 4, 2), (2, 4, 1), (3, 1, 3)):
+            given.harts = harts
+            with mock.patch.object(os, "sched_getaffinity", lambda _, processors=processors: set(range(processors))):
+                must(f"{processors} processors, {harts} harts: {fuzz.jobs(given)}", fuzz.jobs(given) == jobs)
+
+    def test_fuzz__how_far_it_is(self):
+        """Each minute it is said on standard error how many seeds are over, and about how long the others take."""
+        with mock.patch.object(fuzz.time, "monotonic", side_effect=[100, 159, 160, 219, 250]), contextlib.redirect_stderr(io.StringIO()) as said:
+            progress, table = fuzz.Progress(30), fuzz.Table()
+            for table.runs, table.seeds in ((2, {}), (4, {}), (8, {KEY: [1]}), (10, {KEY: [1]})):
+                progress.tell(table)
+        lines = ["fuzz-firmware: 4 of 30 seeds, faults: 0, about 6 min left", "fuzz-firmware: 10 of 30 seeds, faults: 1, about 5 min left"]
+        must(f"{said.getvalue()}", said.getvalue().splitlines() == lines)
 
     def test_fuzz__the_same_faults_by_gdb(self):
         """A fault that comes with a call alone must be in both runs of a seed, unless one of them hung before the call."""
@@ -296,7 +361,7 @@ class FuzzFirmware(Test):
             ([call], [], f"other faults: {[call]}"), ([call], [order], f"the same faults, but for what hangs on the order: {sorted([call, order])}"), ([order], [call], f"the same faults, but for what hangs on the order: {sorted([call, order])}"),
             ([], [call, order], f"other faults: {[call]}, but for what hangs on the order: {[order]}"),
         ):  # fmt: skip
-            runs, given = Judged({3: printed}, every), argparse.Namespace(seeds=fuzz.seeds("3"), harts=4, operations=40, checks=6, ticks=5, uart=6, runs=0, keep=self.room, every=False, gdb=True)
+            runs, given = Judged({3: printed}, every), argparse.Namespace(seeds=fuzz.seeds("3"), harts=4, operations=40, checks=6, ticks=5, uart=6, jobs=1, runs=0, keep=self.room, every=False, gdb=True)
             by_gdb = Judged({3: other}, every).run(fuzzing.Asked(3))
             with contextlib.redirect_stdout(io.StringIO()) as text, mock.patch.object(fuzz, "by_gdb", lambda *_, by_gdb=by_gdb: by_gdb):
                 ended = fuzz.fuzzed(runs, given)

@@ -1,4 +1,7 @@
 """What conditions say of accesses on any TLB: which are stale, which a fence call missed, and which are unsteady, of schedules and traces, and of tried orders."""
+from board_model import number
+
+from .any_tlb import MARKS, UNSTEADY, marks_of_schedule
 from .fixtures import TESTER, Test, must, told
 from .test_empty_verdicts import in_way, points
 
@@ -102,6 +105,28 @@ TWINS = (
     ("steady", SECOND + "1 satp 0x8000500000080006\n1 load 0x1000\n", SECOND + "1 satp 0x8000600000080006\n1 load 0x1000\n"), ("never stale", SECOND + "1 satp 0x8000500000080006\n1 load 0x1000\n", SECOND + "1 satp 0x8000500000080006\n1 sfence - 5\n1 load 0x1000\n"),
     ("never stale", GLOBAL + "1 sfence - 5\n1 load 0x1000\n", GLOBAL + "1 sfence - -\n1 load 0x1000\n"), ("steady", GLOBAL + "1 sfence 0x1000 5\n1 load 0x1000\n", GLOBAL + "1 sfence 0x1000 -\n1 load 0x1000\n"),
     ("steady", SUPER + "0 store 0x80009020 0x200014c7\n" + SPLIT, SUPER + "0 store 0x80009020 0x200010c7\n" + SPLIT), ("steady", OFF + "1 load 0x1000\n", OFF + "1 sfence - -\n1 load 0x1000\n"),
+)  # fmt: skip
+FIRST, OTHER = "0x8000500000080001", "0x8000500000080006"
+# Two fences wait at hart 1, of which the second one covers the page.
+WAITING = BEFORE + LOADED + REMAPPED + "0 ecall 0x52464e43 1 0x2 0 0x2000 0x1000\n2 ecall 0x52464e43 1 0x2 0 0x1000 0x1000\n"
+# An address that the first satp's mode translates, and the second one's can't have.
+BEYOND = MORE.replace(" 0 0x80000000 0\n", " 0 0x80000000 0 16 48\n", 1).replace(f"1 satp {FIRST}", "0 store 0x80001008 0x20000801\n0 store 0x80001000 0\n0 store 0x80002000 0x200000c7\n1 satp 0x9000500000080001") + f"1 load 0x8000004000\n1 satp {FIRST}\n1 load 0x8000004000\n"
+CASES += (
+    (RESET + f"0 ecall 0x48534d 0 1 0x80000000 0\n1 advance\n1 satp {FIRST}\n1 load 0x1000\n", {"steady": True, "never stale": True}), (BEYOND, {"steady 1 load 0x8000004000": True, "never stale": True}),
+    (WAITING + "1 serve\n1 load 0x1000\n", {"steady 1 load": False, "never stale": False}), (WAITING + "1 serve\n1 serve\n1 load 0x1000\n", {"steady 1 load": True, "never stale": True}),
+    (BEFORE + LOADED + REMAPPED + "1 sfence 0x1000 0x10005\n2 sfence - 0x10005\n" + LOADED, {"steady": True, "never stale": True}), (GLOBAL + "1 satp 0x8000600000080001\n1 load 0x1000\n", {"steady 1 load": False, "never stale": False}),
+    (BEFORE + LOADED + REMAPPED + "1 ecall 0x52464e43 1 0x2 0 0x1000 0x1000\n1 poll\n1 load 0x1000\n", {"steady 1": True, "never stale": True}),
+    # No TLB changes a misaligned access.
+    (BEFORE + LOADED + REMAPPED + "2 load 0x1004\n2 store 0x1004 5\n2 store4 0x1002 5\n2 fetch 0x1002\n2 amoadd 0x1004 1\n", {"steady": True, "never stale": True}),
+    # A table that is changed behind the satp's time may still fill.
+    (SECOND + f"1 satp {OTHER}\n0 store 0x80003010 0x200010c7\n1 load 0x2000\n", {"steady 1 load 0x2000": False, "never stale": True}),
+)  # fmt: skip
+FENCE_CALLS += (
+    # Another hart's call that succeeds; an ASID of more bits than the board has.
+    (uses_old(call("1 0x2 0 0x1000 0x1000", "") + "2 ecall 0x52464e43 1 0x4 0 0x2000 0x1000\n2 poll\n"), UNMISSED), (uses_old(call("2 0x2 0 0x1000 0x1000 0x10005")), MISSED),
+    # Since the call the old page was given by the satp that the hart had, or by its present one, which it hadn't; or by neither.
+    (SECOND.replace("0 store 0x80008008 0x200014c7", "0 store 0x80008008 0x200010c7") + REMAPPED + COVERING + f"2 satp {OTHER}\n2 satp {FIRST}\n2 load 0x1000\n", UNMISSED),
+    (SECOND + REMAPPED + f"2 satp {OTHER}\n" + COVERING + AGAIN + f"2 satp {FIRST}\n2 load 0x1000\n", UNMISSED), (SECOND + REMAPPED + f"2 satp {OTHER}\n" + COVERING + f"2 satp {FIRST}\n2 load 0x1000\n", MISSED),
 )  # fmt: skip
 # What no record has.
 WRONG = (("never 1 poll -> stale", "no poll is stale"), ("never 1 sfence -> missed", "no sfence is missed"), ("some c -> unsteady", "no tick is unsteady"), ("never 9 load -> stale", "the board has no hart 9"), ("never 0 sstatus 7 -> stale", "no sstatus has 7"))
@@ -262,3 +287,30 @@ class Marks(Test):
         for asked, more, is_noted in (("steady", "", True), ("steady 0", "0 load 0x1000\n", True), ("never 0 -> stale", "0 fetch 0x80004000\n", True), ("steady 0", "0 fetch 0x80000000\n", False), ("never 1 -> stale", "1 load 0x7000\n", False), ("before 1 load -> stale, 0 load -> stale", "0 load 0x1000\n1 load 0x1000\n", True)):
             status, lines = told(self.room, f"#! {asked}\n{BEFORE}{more}", name="a.sched")
             must(f"{asked}: {more}: {lines}", status == 0 and ("# line 1: never met: no step has this actor and operation" in lines) == is_noted)
+
+
+def meets(asked, steps):
+    """Whether marked steps meet a condition; None where it asks for more than one step's mark."""
+    kind, *words = asked.split()
+    mark, pattern = (UNSTEADY, words) if kind == "steady" else (words[-1], words[: words.index("->")] if "->" in words else [])
+    if kind not in ("steady", "never", "some") or mark not in MARKS:
+        return None
+    fits = lambda actor, op: all(it == "_" or it == at for it, at in zip(pattern, (str(actor), op[0]))) and all(number(it) == at for it, at in zip(pattern[2:], op[1:]))
+    has_one = any(mark in marks and fits(actor, op) for actor, op, marks in steps)
+    return has_one == (kind == "some")
+
+
+class MarksOfTheModel(Test):
+    programs = ()
+
+    def test_the_model_of_any_tlb_has_the_known_marks(self):
+        """The model in Python, by which programs' marks are judged, has the marks of the tables of known answers."""
+        judged = 0
+        cases = [*CASES, *FENCE_CALLS, *((text, {asked: met}) for asked, wrong, right in TWINS for text, met in ((wrong, False), (right, True)))]
+        for text, asked in cases:
+            steps = marks_of_schedule(text)
+            for it, met in asked.items():
+                found = meets(it, steps)
+                judged += found is not None
+                must(f"{it}: {text}: {[step for step in steps if step[2]]}", found in (None, met))
+        must(f"{judged} of {sum(len(asked) for _, asked in cases)}", judged > 120)

@@ -5,6 +5,7 @@ import re
 import shutil
 import signal
 import subprocess
+import tempfile
 
 import board_model
 from board_model import IPI, RFENCE, number, words_of
@@ -17,6 +18,8 @@ from .fixtures import DATA, EXAMPLES, HANG, ROOT, TESTER, Test, explored, must, 
 from .test_wrapper import clone, put
 from .test_wrapper import ran as called
 
+# As tools/front/kinds.py has it.
+MOST_BYTES = 16_777_216
 # The programs whose tables are judged, and those whose tables are stored.
 JUDGED = sorted([*(f"orders/{it}" for it in os.listdir(os.path.join(EXAMPLES, "orders"))), *(it for it in os.listdir(EXAMPLES) if it.endswith(".program"))])
 STORED = ("orders/lost-wakeup.program", "orders/forgotten-hart.program", "shootdown.program")
@@ -73,6 +76,21 @@ sie 0x20
 sstatus 0
 """
 QUIET = "board 1 1 9 0 0x80000000 0\nat 0x80000000\n"
+# In place of the tester: it writes down its words and its file's size, and prints what stands in FOLDER for the file and the task,
+# with the IPI of WAITS in it or without. (Only `explore` is asked with --no-outcomes.)
+STAND_IN = """\
+#!/bin/bash
+name="${@: -1}" task=test
+case " $* " in *" --no-outcomes "*) task=explore;; esac
+echo "$(stat -c %s "$name") $*" >> FOLDER/calls
+sleep PAUSE
+kind=without; grep -q "0x735049 0 0x1" "$name" && kind=with
+for it in "FOLDER/$name.$task.$kind" "FOLDER/$name.$task" "FOLDER/$task.$kind" "FOLDER/$task"; do
+    [ -f "$it" ] && exec sed "s/NAME/$name/" "$it"
+done
+exit 6
+"""
+USE_TEST = "only records tell marks, and explore makes none: use test"
 
 
 class Table:
@@ -386,3 +404,91 @@ class Needed(Test):
             shown = [it for it in text.split("```\n")[1].split("\n") if it and it != "..."]
             found = subprocess.run(["bash", "-c", command], cwd=self.work, capture_output=True, text=True, timeout=10 * HANG)
             must(f"{page}: {found}, and not {shown}", not found.stderr and shown and all(it in found.stdout.splitlines() for it in shown))
+
+
+def points(*told, comments=()):
+    """The output of a tester with these points: of each whether it holds, and its words behind the file's name."""
+    lines = [f"{'ok' if is_ok else 'not ok'} {at} - NAME: {words}" for at, (is_ok, words) in enumerate(told, 1)]
+    return "\n".join(["TAP version 14", *lines, f"1..{len(told)}", *(f"# {it}" for it in comments)]) + "\n"
+
+
+class NeededByAStandIn(Test):
+    """What the script makes of a tester's points, whatever program they are of."""
+
+    programs = ()
+
+    def asked(self, told, files, *words, pause=0):
+        """The status, the tables, and of each call of the tester its words, behind the size of its file."""
+        with tempfile.TemporaryDirectory(dir=self.room) as room:
+            front, folder = clone(room), os.path.join(room, "told")
+            for name, text in told.items():
+                put(os.path.join(folder, name), text)
+            for name, text in files.items():
+                put(os.path.join(room, "work", name), text)
+            put(os.path.join(room, "clone/crates/sbiboard_test/out/sbiboard_test"), STAND_IN.replace("FOLDER", folder).replace("PAUSE", str(pause)))
+            status, out, said = called(room, ["bash", "-c", 'cd work; exec "$@"', "-", front, "explore", "--needed", *words, *files], seconds=10 * HANG)
+            must(f"{out} {said}", not said)
+            return status, out, read(os.path.join(folder, "calls")).splitlines()
+
+    def table(self, told, text, *words):
+        status, out, _ = self.asked(told, {"a.program": text}, *words)
+        return status, tables(out)[0]
+
+    def test_needed__what_was_cut_off(self):
+        """What `test` hasn't seen to its end isn't judged, whether the time or the limit of a history cut it off: as the file stands, and behind a change."""
+        text, holds = WAITS.replace("each 0 load 0x80002000 -> value 0x1", "steady"), (True, "line 1: steady: holds in 5 orders of unknown many, seed 0")
+        explore = points((False, f"line 1: steady: not judged: {USE_TEST}"))
+        for comment, why in (("cut short: not all orders were tried", "the time ended it"), ("ends: 3 quiet, 2 history-full", "the limit cut off 2 orders")):
+            cut = points(holds, comments=[comment])
+            status, table = self.table({"explore": explore, "test": cut}, text)
+            must(f"{table.conditions} {table.rows}", status == 8 and table.conditions == {1: f"steady: not judged: {why} (by test); so it can't tell what is needed"} and not table.rows)
+            status, table = self.table({"explore": explore, "test.with": points(holds), "test.without": cut}, text)
+            must(f"{table.conditions} {table.rows}", table.conditions == {1: "steady: holds in 5 orders of unknown many, seed 0 (by test)"} and {*table.changes().values()} == {f"line 1: not judged: {why}"})
+            must(f"{status} {table.last}", status == 8 and table.last == "# 2 changes: with 0 a condition fails, with 0 none does, 2 not judged")
+        status, table = self.table({"explore": explore, "test": points(holds, comments=["ends: 5 quiet"])}, text)
+        must(f"{table.conditions} {table.rows}", table.rows[10, "without it"] == "no condition fails; line 1 holds in 5 orders of unknown many, seed 0")
+
+    def test_needed__points_of_two_tasks(self):
+        """Of each condition the point is that of the task which judges it; where a task tells other points, nothing is judged."""
+        text = WAITS.replace("#! each 0 load 0x80002000 -> value 0x1", "#! steady\n#! end quiet")
+        explore = points((False, f"line 1: steady: not judged: {USE_TEST}"), (True, "line 2: end quiet: holds in all orders"))
+        test = [(True, "line 1: steady: holds in 5 orders of unknown many, seed 0"), (True, "line 2: end quiet: holds in 5 orders of unknown many, seed 0")]
+        _, table = self.table({"explore": explore, "test": points(*test)}, text)
+        must(f"{table.conditions}", table.conditions == {1: f"{test[0][1][8:]} (by test)", 2: "end quiet: holds in all orders (by explore)"})
+        status, out, _ = self.asked({"explore": explore, "test": points(*test, (False, "line 3: a comment"))}, {"a.program": text})
+        must(f"{status} {out}", (status, out) == (1, "a.program: other conditions\n"))
+        _, table = self.table({"explore": explore, "test.with": points(*test), "test.without": points(test[0])}, text)
+        must(f"{table.rows}", table.rows[11, "without it"] == "not judged: other conditions")
+
+    def test_needed__how_long_is_left(self):
+        """Each call has what is left of --seconds, and none once they are over; what is too long is handed on to be refused."""
+        holds = {"explore": points((True, "line 1: end quiet: holds in all orders"))}
+        text = WAITS.replace("each 0 load 0x80002000 -> value 0x1", "end quiet")
+        for given in (1, 900):
+            _, _, calls = self.asked(holds, {"a.program": text}, "--seconds", str(given), pause=1.1)
+            seconds = [int(re.search(r"--seconds=(-?\d+)", it)[1]) for it in calls]
+            must(f"{seconds}", len(seconds) == 3 and (seconds == [0, 0, 0] if given == 1 else 900 > seconds[0] > seconds[1] > seconds[2] > 800))
+        for more in (0, 1, 9):
+            _, _, calls = self.asked(holds, {"a.program": QUIET + "#" * (MOST_BYTES + more - len(QUIET))})
+            must(f"{more}: {calls}", [int(it.split()[0]) for it in calls] == [MOST_BYTES + min(more, 1)])
+
+    def test_needed__statuses_of_several_files(self):
+        """A file of which something fails counts before one of which something isn't judged, wherever they stand."""
+        told = {
+            "a.program.explore": points((True, "line 1: end quiet: holds in all orders")), "a.program.explore.without": points((False, "line 1: end quiet: fails")),
+            "b.program.explore": points((False, "line 1: end quiet: not judged: more than 3 states")), "c.program.explore": points((False, "line 1: end quiet: fails")),
+        }  # fmt: skip
+        text = WAITS.replace("each 0 load 0x80002000 -> value 0x1", "end quiet")
+        for names, wanted in (("a", 0), ("b", 8), ("c", 1), ("ab", 8), ("bc", 1), ("cb", 1), ("bca", 1)):
+            status, out, _ = self.asked(told, {f"{it}.program": text for it in names})
+            must(f"{names}: {status}, {out}", status == wanted)
+
+    def test_needed__masks_of_64_harts(self):
+        """A base of all ones becomes a mask as long as the harts fit one."""
+        text = "#! end quiet\nboard {} 1 20 0 0x80000000 0\nat 0x80000000\necall 0x52464e43 0 0 0xffffffffffffffff\n"
+        told = {"explore": points((True, "line 1: end quiet: holds in all orders"))}
+        for harts in (63, 64):
+            _, table = self.table(told, text.format(harts))
+            must(f"{harts}: {table.rows}", list(table.changes()) == [(4, "without it"), *((4, f"mask without hart {it}") for it in range(harts))])
+        _, table = self.table(told, text.format(65))
+        must(f"{table.rows}", list(table.changes()) == [(4, "without it"), (4, "without each hart")])

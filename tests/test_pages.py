@@ -28,13 +28,13 @@ def is_there(name):
 
 
 def definitions_named(text):
-    """The files of definitions that the table of what to read names, as `crate` (all), or `crate` (`File`, ..)."""
+    """The files of definitions that the table of what to read names, as `crate` (all), `crate` (`File`, ..), or `crate` (all, `File`, ..)."""
     for crate, said in re.findall(r"`(\w+)` \(([^)]*)\)", text):
         folder = os.path.join(ROOT, "crates", crate, "specs")
-        if said == "all":
+        if said.split(",")[0] == "all":
             found = (os.path.relpath(path, folder) for path in glob.glob(os.path.join(folder, "**/*.antt"), recursive=True))
             yield from ((crate, name.removesuffix(".antt").split("/")[0]) for name in found if not re.match("Inside|Lib", name))
-        elif os.path.isdir(folder):
+        if os.path.isdir(folder):
             yield from ((crate, name) for name in re.findall(r"`(\w+)`", said))
 
 

@@ -1,11 +1,11 @@
 """Each allocation of one call of the library refused in turn, by itself and with all after it: what that call itself answers, what
-it hands back, and what it answers when it is made again. A program of tests, memory_rows, makes the calls."""
+it hands back, and what it answers when it is made again. A program of tests, thread_rows, makes the calls."""
 import itertools
-import os
 
-from .fixtures import ROOT, Test, add, allocating, calling, must, named, program_of, read, shim
+from .fixtures import Test, add, allocating, calling, must, named, program_of, rows_of, shim
 
-PROGRAM = program_of("memory_rows")
+# The program, and the part of its rows that makes the calls.
+PROGRAM, PART = program_of("thread_rows"), "memory"
 
 # What the calls answer: of the board's faults and of a run's the name, of a script's the line and the number too.
 NO_MEMORY, NO_THREAD = "NoMemory", "NoThread"
@@ -16,7 +16,7 @@ RUN, THREADS = "run", 4
 
 
 def stored():
-    return read(os.path.join(ROOT, "crates/memory_rows/stdout")).splitlines()
+    return rows_of("thread_rows", PART)
 
 
 def wanted(call, answer):
@@ -41,7 +41,7 @@ def each_refused(room, call, answers, least):
     made = shim(room)
     for number in itertools.count(1):
         for more in ({}, {"FROM": str(number)}):
-            found, sizes = allocating(made, room, [], number, program=PROGRAM, WITHIN=call, **more)
+            found, sizes = allocating(made, room, [PART], number, program=PROGRAM, WITHIN=call, **more)
             if len(sizes) < number:
                 must_print(found, stored(), f"{call}, all memory")
                 must(f"{call} takes memory {number - 1} times, and not {least} times or more", number > least)
@@ -54,7 +54,7 @@ class Starts:
     """Which allocations of a run are of a thread's start, as they come with all memory."""
 
     def __init__(self, room):
-        found, sizes, calls = calling(shim(room), room, [], program=PROGRAM, WITHIN=RUN)
+        found, sizes, calls = calling(shim(room), room, [PART], program=PROGRAM, WITHIN=RUN)
         must_print(found, stored(), f"{RUN}, all memory")
         begun, started = calls["t"], calls["T"]
         must(f"{len(begun)} threads are started, and not {THREADS}", len(begun) == THREADS)
@@ -78,21 +78,21 @@ CALLS = (
 class RefusedCalls(Test):
     programs = (PROGRAM,)
 
-    @named("memory_rows: run")
-    def test_memory_rows_run(self):
+    @named("refused calls: run")
+    def test_refused_calls_run(self):
         """No memory for a thread's start is no thread; for anything else it is no memory."""
         each_refused(self.room, RUN, Starts(self.room).answer, 20)
 
-    @named("memory_rows: threads of a run")
-    def test_memory_rows_threads_of_a_run(self):
+    @named("refused calls: threads of a run")
+    def test_refused_calls_threads_of_a_run(self):
         """Each thread refused in turn."""
         made = shim(self.room)
         for thread in range(1, THREADS + 1):
-            found, _ = allocating(made, self.room, [], thread=thread, program=PROGRAM, WITHIN=RUN)
+            found, _ = allocating(made, self.room, [PART], thread=thread, program=PROGRAM, WITHIN=RUN)
             must_print(found, wanted(RUN, NO_THREAD), f"thread {thread} refused")
-        found, _ = allocating(made, self.room, [], thread=THREADS + 1, program=PROGRAM, WITHIN=RUN)
+        found, _ = allocating(made, self.room, [PART], thread=THREADS + 1, program=PROGRAM, WITHIN=RUN)
         must_print(found, stored(), "all threads")
 
 
 for call, answer, least in CALLS:
-    add(RefusedCalls, f"memory_rows: {call}", lambda room, call=call, answer=answer, least=least: each_refused(room, call, lambda _: answer, least))
+    add(RefusedCalls, f"refused calls: {call}", lambda room, call=call, answer=answer, least=least: each_refused(room, call, lambda _: answer, least))

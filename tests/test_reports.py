@@ -67,6 +67,15 @@ OWN_DEADLINE = call(HSM, 3, 0, hart=1)[:-1] + " sie=0x20 sip=0x0\n1 ret 0 0 sie=
 STOPS = TWO + call(HSM, 1, hart=1) + "..0 call 0x48534d 2 1 0 0 0 0 0\n0 ret 0 0\n"
 # A suspend that fails, and what comes meanwhile.
 FAILS = TWO + call(HSM, 3, 0x7FFFFFFF, hart=1) + "..1 ret -2 0\n"
+# Hart 2 is started by an id that is cut, and enters: here it is stopped.
+CUT = TWO + answered(HSM, 0, 1 << 32 | 2, 0x80200100, 7) + "2 entry 0x80200100 2 7\n"
+# A hart that its deadline wakes at its very time; and one that enters while an IPI to it is under way.
+AT_ITS_TIME = TWO + f"{call(TIME, 0, 20, hart=1)[:-1]} time=12 sie=0x20 sip=0x0\n1 ret 0 0 time=13\n{call(HSM, 3, 0, hart=1)[:-1]} time=15 sie=0x20 sip=0x0\n1 ret 0 0 time=20 sie=0x20 sip=0x20\n"
+WITH_AN_IPI = TWO + f"{call(TIME, 0, 60, hart=1)[:-1]} time=12 sie=0x20 sip=0x0\n1 ret 0 0 time=13\n{call(HSM, 3, 1 << 31, 0x80200100, 9, hart=1)[:-1]} time=15 sie=0x20 sip=0x0\n"
+WITH_AN_IPI += f"{call(IPI, 0, 2)[:-1]} time=65\n1 entry 0x80200100 1 9 time=70 sie=0x20 sip=0x22\n0 ret 0 0 time=75\n"
+# An IPI of two harts that has woken hart 1 before it comes to hart 2, which has entered meanwhile.
+TO_BOTH = TWO + answered(HSM, 0, 2, 0x80200100, 7) + f"{call(HSM, 3, 0, hart=1)[:-1]} sie=0x2 sip=0x0 time=50\n{call(IPI, 0, 6)[:-1]} time=60\n1 ret 0 0 sie=0x2 sip=0x2 time=65\n"
+TO_BOTH += f"2 entry 0x80200100 2 7 sip=0x0 time=66\n{call(HSM, 3, 0, hart=2)[:-1]} sie=0x2 sip=0x0 time=67\n"
 CHANGED = [("sie", "sie=0x2", "sie=0x0"), ("sie, in an IPI's bit", "sie=0x20", "sie=0x22"), ("sstatus", "sstatus=0", "sstatus=1")]
 
 WRONG = [
@@ -195,6 +204,17 @@ WRONG = [
       for what, more in (("sstatus.SIE", " sstatus=1"), ("satp", " satp=0x8000000000080400"))),
     ("a deadline that wakes a hart, and isn't enabled", MAY_WRITE + OWN_DEADLINE.replace("sie=0x20", "sie=0x2"), UNEXPLAINED, 7),
     ("a deadline that wakes a hart, and was set for ever", TWO + answered(TIME, 0, ALL, hart=1) + OWN_DEADLINE, UNEXPLAINED, 9),
+    ("a suspend that nothing ends, behind an IPI that was taken", TWO + answered(IPI, 0, 1 << 63 | 2) + f"{call(BASE, 0, hart=1)[:-1]} sie=0x2 sip=0x0\n1 ret 0 0x1000000\n" + DOZES + "1 ret 0 0 sie=0x2 sip=0x0\n", UNEXPLAINED, 11),
+    ("a suspend that a deadline ends which isn't enabled, as was seen before", TWO + answered(TIME, 0, 20, hart=1) + f"{call(BASE, 0, hart=1)[:-1]} sie=0x2 sip=0x0\n1 ret 0 0x1000000\n" + answered(HSM, 3, 0, hart=1), UNEXPLAINED, 11),
+    ("a suspend that nothing ends, behind one that a fence ended", TWO + DOZES + answered(RFENCE, 0, 2) + "1 ret 0 0 sie=0x2 sip=0x0 time=80\n" + DOZES.replace("time=50", "time=90") + "1 ret 0 0 sie=0x2 sip=0x0 time=95\n", UNEXPLAINED, 11),
+    ("a suspend that nothing ends, behind one that an external interrupt ended", TWO + SLEEPS + "1 ret 0 0 sie=0x200 sip=0x200\n" + answered(HSM, 3, 0, hart=1), UNEXPLAINED, 9),
+    ("a suspend that ends without the IPI under way", TO_BOTH + "2 ret 0 0 sie=0x2 sip=0x0 time=80\n0 ret 0 0 time=85\n", UNEXPLAINED, 13),
+    ("a suspend that ends behind an IPI which has returned", TO_BOTH + "0 ret 0 0 time=75\n2 ret 0 0 sie=0x2 sip=0x2 time=80\n", UNEXPLAINED, 14),
+    ("a hart that a fence wakes which never returns", TWO + DOZES + call(RFENCE, 0, 2) + "1 ret 0 0 sie=0x2 sip=0x0 time=80\nm end limit\n", "open", 8),
+    *((f"{what} of a hart that an id which is cut has started", CUT + made, "follows", at) for what, made, at in (("an entry", "", 8), ("a state", answered(HSM, 2, 2), 9), ("a call", answered(HSM, 2, 0, hart=2), 9))),
+    ("another state of a hart that has stopped and begun anew", CUT + call(HSM, 1, hart=2) + answered(HSM, 0, 2, 0x80200100, 9) + "2 entry 0x80200100 2 9\n" + answered(HSM, 2, 2, ret="0 1"), UNEXPLAINED, 13),
+    ("an entry behind a reserved reset", TWO + call(SRST, 0, 5) + "0 entry 0x80200000 0 0x87e00000\n", "follows", 7),
+    ("a list of all harts that is refused, while a hart enters", TWO + call(IPI, 0, 0, ALL) + answered(HSM, 0, 2, 0x80200100, 7, hart=1) + "2 entry 0x80200100 2 7\n0 ret -3 0\n", "breaks", 6),
     ("a state behind a reset that was refused", TWO + answered(SRST, 0, 0, 0xE0000000, ret="-3 0") + answered(HSM, 2, 1, ret="0 1"), UNEXPLAINED, 8),
 ]  # fmt: skip
 
@@ -295,6 +315,13 @@ TOLD = [
     ("a start that failed, and the next one", TWO + answered(HSM, 0, 2, 0x80200100, 7, ret="-1 0") + answered(HSM, 0, 2, 0x80200100, 7) + "2 entry 0x80200100 2 7\n", "open", 6),
     ("ids of two harts' machines", TWO + answered(BASE, 4, ret="0 1") + answered(BASE, 4, ret="0 2", hart=1), "open", 6),
     ("an IPI that comes behind a fence's wake", TWO + DOZES + answered(RFENCE, 0, 2) + SENDS + "1 ret 0 0 sie=0x2 sip=0x0 time=80\n", None, 0),
+    ("a deadline that comes at the very time at which its hart goes on", AT_ITS_TIME, None, 0),
+    ("a wake by an IPI whose list has a hart that isn't there", TWO + DOZES + answered(IPI, 0, 1 << 63 | 2) + "1 ret 0 0 sie=0x2 sip=0x2\n", "follows", 9),
+    ("an IPI that comes late, and another one", TWO + DOZES.replace("time=50", "time=80").join((SENDS, "1 ret 0 0 sie=0x2 sip=0x2 time=85\n")) + SENDS.replace("=60", "=90").replace("=70", "=95"), None, 0),
+    ("a wake by an IPI under way that isn't enabled", TWO + DOZES.replace("sie=0x2", "sie=0x20") + f"{call(IPI, 0, 2)[:-1]} time=60\n1 ret 0 0 sie=0x20 sip=0x2 time=65\n0 ret 0 0 time=70\n", "open", 8),
+    ("a start of a suspended hart that goes on before the start returns", TWO + DOZES + SENDS + call(HSM, 0, 1, 0x80200100) + "1 ret 0 0 sie=0x2 sip=0x2 time=80\n0 ret -3 0\n", "open", 9),
+    ("an IPI that comes to one hart after the other", TO_BOTH + "2 ret 0 0 sie=0x2 sip=0x2 time=80\n0 ret 0 0 time=85\n", "open", 13),
+    ("a version that was seen the second time alone", TWO + answered(BASE, 0, ret="- -") + answered(BASE, 0, ret="0 0x1000000"), "unjudged", 6),
     ("a suspended hart that is late", TWO + DOZES + SENDS + at(LONG + 69), None, 0),
     ("a suspended hart that hasn't enabled the IPI", TWO + DOZES.replace("sie=0x2", "sie=0x20") + SENDS + at(LONG + 70), None, 0),
     ("a suspended hart, and the IPI of another one", TWO + DOZES + SENDS.replace(" 0 2 0", " 0 1 0") + at(LONG + 70), None, 0),
@@ -442,6 +469,7 @@ class Reports(Test):
         for what, text in (("a stop", answered(HSM, 1, hart=1, ret="-1 0") + answered(HSM, 2, 1)), ("a reset", answered(SRST, 0, 0, 1, ret="-1 0") + answered(HSM, 2, 1, hart=1))):
             report = reported(TWO + text + answered(IPI, 0, 3, hart=1))
             must(f"behind {what} that was refused: {list(report.lines())}", report.counts == {"agree": 5, "open": 1} and not report.items["follows"])
+        must(f"an entry during an IPI: {reported(WITH_AN_IPI).counts}", reported(WITH_AN_IPI).counts == {"agree": 7})
         for end in ("m end off\n", "m reset\n0 entry 0x80200000 0 0x87e00000\n"):
             text = BOOT + answered(HSM, 0, 1, 0x80200100, 7, ret="0 0 time=50") + f"{call(TIME, 0, 5)[:-1]} time={{}}\n0 ret 0 0\n" + end
             found = [[len(reported(text.format(time)).items[kind]) for kind in ("enter", "unjudged")] for time in (SOON + 49, SOON + 50)]

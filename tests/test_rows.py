@@ -2,25 +2,28 @@
 import os
 import re
 
-from .fixtures import ROOT, Test, allocating, at_once, must, named, program_of, read, shim
+from .fixtures import ROOT, Test, allocating, at_once, must, named, program_of, read, rows_of, shim
 
 # What a row says in place of what it shows.
 NO_MEMORY, NO_THREAD = "no memory", "no thread"
 REFUSED = re.compile(f"(line [0-9]+: )?{NO_MEMORY}|{NO_THREAD}")
 
+# The program of rows with threads.
+THREADS = program_of("thread_rows")
+
 
 class Rows:
-    """A program of rows and its words, with what it must print where nothing is refused."""
+    """A part of the rows of threads, with what it must print where nothing is refused. Its first word is its name."""
 
-    def __init__(self, name, room, words=()):
-        self.program, self.words, self.room, self.made = program_of(name), words, room, shim(room)
-        self.lines = read(os.path.join(ROOT, "crates", name, "stdout")).splitlines()
+    def __init__(self, room, words):
+        self.words, self.room, self.made = words, room, shim(room)
+        self.lines = rows_of("thread_rows", words[0])
 
     def run(self, refused=0, thread=0):
         """A run with that allocation or that thread refused, and how many allocations there were."""
         own = os.path.join(self.room, f"{refused}-{thread}")
         os.mkdir(own)
-        found, sizes = allocating(self.made, own, self.words, refused, thread, program=self.program)
+        found, sizes = allocating(self.made, own, self.words, refused, thread, program=THREADS)
         return found, len(sizes)
 
     def said(self, refused=0, thread=0):
@@ -103,11 +106,11 @@ class WorkedRows(Test):
 
 
 class ThreadRows(Test):
-    programs = (program_of("thread_rows"),)
+    programs = (THREADS,)
 
     def rows(self):
         """Where a thread is refused, one that a gate has wait for it gives up soon."""
-        return Rows("thread_rows", self.room, ["soon"])
+        return Rows(self.room, ["threads", "soon"])
 
     @named("thread_rows: each thread refused")
     def test_thread_rows_each_thread_refused(self):
@@ -127,8 +130,8 @@ class ThreadRows(Test):
 
 
 class LockRows(Test):
-    programs = (program_of("lock_rows"),)
+    programs = (THREADS,)
 
-    @named("lock_rows: each thread refused")
-    def test_lock_rows_each_thread_refused(self):
-        each_thread(Rows("lock_rows", self.room), 9)
+    @named("thread_rows: each thread of locks refused")
+    def test_thread_rows_each_thread_of_locks_refused(self):
+        each_thread(Rows(self.room, ["locks"]), 9)

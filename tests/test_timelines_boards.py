@@ -167,7 +167,7 @@ def must_tell(course, boards):
         must(f"step {place + 1}: {steps}, not {wanted_cause(boards, place)}", tuple(steps) == wanted_cause(boards, place))
         told, h = course["whys"][why], boards.steps[place][0]
         must(f"step {place + 1}: {told}", len(told) > 2 and told[0][1] == steps[0] and told[1][1] == steps[1] and f"step {steps[0] + 1} (line " in told[0][0])
-        must(f"step {place + 1}: {told}", told[0][0].startswith(f"used: hart {h}'s ") and f", since step {steps[1] + 1} (line " in told[1][0])
+        must(f"step {place + 1}: {told}", told[0][0].startswith(f"used: hart {h}'s ") and told[1][0].startswith(f"changed at step {steps[1] + 1} (line "))
         must_tell_fences(told[2:], boards, place, steps[1])
 
 
@@ -181,7 +181,7 @@ def must_tell_fences(told, boards, place, changed):
         must(f"step {place + 1}: {text}", changed < at < place and f"step {at + 1} (" in text)
         if op[0] == "ecall":
             others = boards.behind[at].harts[actor].outstanding
-            asked = re.search(r": asked ((?:harts? )?[\d, nobdy]+?)(?:;|, not|$)", text)[1]
+            asked = re.search(r", which asked ((?:harts? )?[\d, nohart]+?)(?:;|, and not|$)", text)[1]
             named = {int(it) for it in re.findall(r"\d+", asked)}
             must(f"step {place + 1}: {text}, and asked were {others}", named - {actor} == set(others) and boards.answers[at] == ("waiting",) and not is_word)
         else:
@@ -224,10 +224,10 @@ class TimelineBoards(Test):
         first = [*start(), "2 satp 0x0", load]
         fence = lambda mask, page=0x1000: f"0 ecall 0x52464e43 1 {mask} 0 {page:#x} 0x1000"
         for lines, wanted in (
-            ([remap, fence(4)], "asked hart 2, not hart 1"), ([remap, fence(6)], "asked harts 1, 2; it waits at hart 1, not served yet"), ([remap, fence(2, 0x2000), "1 serve"], "asked hart 1; it does not cover this"),
-            ([remap, "0 sfence - -"], "sfence.vma of all pages: hart 0's own, not hart 1's"), ([remap, "1 sfence 0x2000 -"], "hart 1's own, which does not cover it"), ([remap, fence(1)], "asked hart 0, not hart 1"),
-            ([remap, fence(0)], "asked nobody, not hart 1"), ([fence(2), remap], f"no fence was asked since; step {len(first)} (line {len(first) + 1}: 0 ecall) asked hart 1 before the change"), ([remap], "no fence was asked since"),
-            ([remap, "0 fencei"], "no fence was asked since"), ([remap, *["0 sfence 0x2000 -"] * 6], "2 more fences since then"),
+            ([remap, fence(4)], "which asked hart 2, and not hart 1"), ([remap, fence(6)], "which asked harts 1, 2; hart 1 hasn't served it yet"), ([remap, fence(2, 0x2000), "1 serve"], "which asked hart 1; it doesn't cover this"),
+            ([remap, "0 sfence - -"], "sfence.vma of all pages: hart 0's own, and not hart 1's"), ([remap, "1 sfence 0x2000 -"], "hart 1's own, which doesn't cover this"), ([remap, fence(1)], "which asked hart 0, and not hart 1"),
+            ([remap, fence(0)], "which asked no hart, and not hart 1"), ([fence(2), remap], f"fenced at step {len(first)} (line {len(first) + 1}: 0 ecall), before the change, and not since"), ([remap], "no fence at hart 1 since then"),
+            ([remap, "0 fencei"], "no fence at hart 1 since then"), ([remap, *["0 sfence 0x2000 -"] * 6], "2 more fences since then"),
         ):  # fmt: skip
             # (a fence call that asks others is open until they serve)
             text = "\n".join([*first, *(it.replace("0 store 0x80003008", "2 store 0x80003008") for it in lines), load]) + "\n"
@@ -236,7 +236,7 @@ class TimelineBoards(Test):
             must(f"{lines}: {told}", any(it.endswith(wanted) for it, _ in told))
         text = "\n".join([*start(), "1 satp 0x0", "1 fetch 0x80004000", "0 store 0x80004000 0x7", "1 sfence - -", "1 fetch 0x80004000"]) + "\n"
         (told,) = self.course_of(text)["whys"]
-        wanted = ["used: hart 1's fetched word 0x80004000 is 0x0, filled by step 16 (line 17: 1 fetch)", "but memory has 0x7, since step 17 (line 18: 0 store)", "no fence was asked since"]
+        wanted = ["used: hart 1's fetched word 0x80004000 is 0x0, filled at step 16 (line 17: 1 fetch)", "changed at step 17 (line 18: 0 store): memory has 0x7", "no fence at hart 1 since then"]
         must(f"{told}", [it for it, _ in told] == wanted)
 
 
@@ -299,7 +299,7 @@ class TimelinesBeside(Test):
         must(f"{shown['tops']}", [len(it) for it in shown["tops"]] == [4, 4] and shown["tops"][1][0] > shown["tops"][0][-1] + 26)
         stale = [text for kind, text in shown["board"][2] if kind == "stale"]
         must(f"{shown['board']}", [it[0][1] for it in shown["board"]] == ["hart 0", "hart 1", "hart 2"] and stale == ["translation 0x1000 to 0x80004000 rw-d (ASID 5), filled at step 14, STALE since step 15"])
-        must(f"{shown['why']}", len(shown["why"]) == 4 and shown["why"][2].endswith("asked hart 1, not hart 2") and shown["why"][3].startswith("beside: 21  2 load 0x1000 -> value 0x22"))
+        must(f"{shown['why']}", len(shown["why"]) == 4 and shown["why"][2].endswith("asked hart 1, and not hart 2") and shown["why"][3].startswith("beside: 21  2 load 0x1000 -> value 0x22"))
         # (a box is around each step whose answer is another one than beside)
         data, texts = both(read(path))
         first = len(data["courses"][0]["actors"])
@@ -334,7 +334,7 @@ class TimelinesBeside(Test):
         words = [chosen, "--headless", "--no-sandbox", "--disable-gpu", f"--user-data-dir={self.room}/own", "--window-size=1400,800", "--dump-dom", f"file://{path}#20"]
         dom = tool(words)[0].decode()
         must("it isn't drawn", int(re.search(r'data-drawn="([0-9]+)"', dom)[1]) > 60)
-        for wanted in ('class="stale">translation 0x1000 to 0x80004000', "asked hart 1, not hart 2</a>", "beside: 21  2 load", "behind step 20", "<b>hart 2</b>", "another answer than beside"):
+        for wanted in ('class="stale">translation 0x1000 to 0x80004000', "asked hart 1, and not hart 2</a>", "beside: 21  2 load", "behind step 20", "<b>hart 2</b>", "another answer than beside"):
             must(f"the page lacks {wanted}", wanted in dom)
         # (the mouse moves over the call of the first course)
         moves = "canvas.dispatchEvent(new MouseEvent('mousemove', { clientX: canvas.getBoundingClientRect().left + toX(15.5), clientY: canvas.getBoundingClientRect().top + laneTop(courses[0], 1) + 9 }));"

@@ -99,6 +99,13 @@ PUT_IN = [
         ["0 ecall 0x53525354 0x0 0x1 0x0 0x0 0x0 0x0 0x0 -> gone", "c tick 0xa -> done", "0 ecall 0x54494d45 0x0 0x78 0x0 0x0 0x0 0x0 0x0 -> ret 0 0x0"],
         [],
     ),
+    # A stop and a suspend that another hart doesn't see yet are done at the end.
+    *(
+        (TWO + f"1 call 0x48534d {fid} 0 0 0 0 0 0\n0 call 0x48534d 2 1 0 0 0 0 0\n0 ret 0 0\n", ["0 ecall 0x48534d 0x2 0x1 0x0 0x0 0x0 0x0 0x0 -> ret 0 0x0", f"1 ecall 0x48534d {fid:#x} 0x0 0x0 0x0 0x0 0x0 0x0 -> {done}"], [])
+        for fid, done in ((1, "gone"), (3, "waiting"))
+    ),
+    # A register that can't be so is none that the guest wrote.
+    (TWO + "1 call 0x10 0 0 0 0 0 0 0 sstatus=2\n1 ret 0 0x1000000\n", ["1 ecall 0x10 0x0 0x0 0x0 0x0 0x0 0x0 0x0 -> ret 0 0x1000000"], ["sstatus"]),
 ]
 
 # What no order and no rule explains: the line, what it is, the answers here and there.
@@ -208,6 +215,7 @@ class ToTrace(Test):
             places = [steps.index(step) if step in steps else -1 for step in there]
             must(f"of {text!r} the steps are {steps}", -1 not in places and places == sorted(places) and not any(word in step for step in steps for word in not_there))
             must(f"of {text!r} something differs", b"\nunexplained: 0\n" in tool([TO_TRACE, "--report", path])[0])
+            must(f"of {text!r} a time isn't told to be another one: {shown(trace)}", (b", its time by the board's clock" in trace) == ("time=30\n0 call 0x54494d45" in text))
             checked(self.room, trace, 0, b"agrees %d\n" % len(steps), b"")
 
     def test_differences(self):

@@ -153,7 +153,7 @@ class Paths(Test):
         """The toolchain is asked to use four processors at most, however many there are."""
         front = clone(self.room)
         status, out, said = ran(self.room, [front, "replay", "a.sched"], CORES="8", RT_TAKES="0.02")
-        must(f"{said}", (status, out) == (0, "built: replay a.sched\n") and said.startswith(first("about 16 minutes here, on 8 processors")))
+        must(f"{said}", (status, out) == (0, "built: replay a.sched\n") and said.startswith(first("16 to 32 minutes on 8 processors")))
         jobs = {line.split()[3] for line in called(self.room) if "--jobs" in line}
         must(f"{called(self.room)}", jobs == {"3", "4"})
 

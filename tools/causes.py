@@ -166,7 +166,7 @@ class Causes:
 
     def told(self, use, used, now):
         filled, changed = use.item.begin, use.item.stale[-1][0]
-        told = [(f"{used}, filled by {self.step(filled)}", filled), (f"but {now}, since {self.step(changed)}", changed)]
+        told = [(f"{used}, filled at {self.step(filled)}", filled), (f"changed at {self.step(changed)}: {now}", changed)]
         return told + self.fences_told(use, changed), filled, changed
 
     # ---- fences
@@ -181,17 +181,17 @@ class Causes:
             return told
         before = next((it for it in reversed(self.fences[:first]) if it.asked and use.hart in it.asked and use.is_covered(it.fence)), None)
         if before:
-            return [(f"no fence was asked since; {self.step(before.place)} asked hart {use.hart} before the change", before.place)]
-        return [("no fence was asked since", None)]
+            return [(f"fenced at {self.step(before.place)}, before the change, and not since", before.place)]
+        return [(f"no fence at hart {use.hart} since then", None)]
 
     def fence_told(self, it, use):
         """What a fence that came after the change did to this hart."""
-        what = f"{self.step(it.place)}, {spelled_fence(it.fence)}"
+        what = f"fenced at {self.step(it.place)}, {spelled_fence(it.fence)}"
         if it.asked is None:
-            return f"{what}: hart {it.hart}'s own, " + ("which does not cover it" if it.hart == use.hart else f"not hart {use.hart}'s")
-        asked = "nobody" if not it.asked else ("hart " if len(it.asked) == 1 else "harts ") + ", ".join(map(str, sorted(it.asked)))
+            return f"{what}: hart {it.hart}'s own, " + ("which doesn't cover this" if it.hart == use.hart else f"and not hart {use.hart}'s")
+        asked = "no hart" if not it.asked else ("hart " if len(it.asked) == 1 else "harts ") + ", ".join(map(str, sorted(it.asked)))
         if use.hart not in it.asked:
-            return f"{what}: asked {asked}, not hart {use.hart}"
+            return f"{what}, which asked {asked}, and not hart {use.hart}"
         waits = any(one.begin == it.place for one in self.holdings.open[use.hart][FENCE])
-        end = f"it waits at hart {use.hart}, not served yet" if waits else "it was served" if use.is_covered(it.fence) else "it does not cover this"
-        return f"{what}: asked {asked}; {end}"
+        end = f"hart {use.hart} hasn't served it yet" if waits else "it was served" if use.is_covered(it.fence) else "it doesn't cover this"
+        return f"{what}, which asked {asked}; {end}"

@@ -2,7 +2,7 @@
 from bisect import bisect_right
 
 from board_model import (
-    ALL, BASE, GONE, HSM, INVALID_ADDRESS, INVALID_PARAM, IPI, LOW, NOT_SUPPORTED, RESUME_PENDING, RFENCE, STARTED, SUSPEND_PENDING, SUSPENDED, WAITING, spelled_answer,
+    ALL, BASE, GONE, HSM, INVALID_ADDRESS, INVALID_PARAM, IPI, LOW, NOT_SUPPORTED, RESUME_PENDING, RFENCE, SSI, STARTED, SUSPEND_PENDING, SUSPENDED, WAITING, spelled_answer,
 )  # fmt: skip
 from liveness import shown as spelled_call
 from records import UNSEEN, is_reset, is_suspend, listed
@@ -255,8 +255,17 @@ class Differences:
 
     def of_wake(self, state, hart, line):
         """What woke a hart that sleeps here. line: that at which it went on there, or None."""
-        rule = rule_of_wake(state, hart, line.notes.get("sip", 0) if line else 0, self.record.has_stimecmp)
+        sip = line.notes.get("sip", 0) if line else 0
+        rule = rule_of_wake(state, hart, sip, self.record.has_stimecmp) or self.of_late_ipi(state, hart, sip)
         return verdict_of(rule) if rule else None
+
+    def of_late_ipi(self, state, hart, sip):
+        """The rule of an IPI under way that is done here: there it comes to one hart after the other."""
+        if not (sip & state.board.harts[hart].sie & SSI):
+            return None
+        calls = [it for it in state.calls.values() if it is not None and it.op[1:3] == (IPI, 0) and it.answer == ("ret", 0, 0)]
+        named = [self.named(self.lines[it.place].numbers[2:4]) for it in calls]
+        return "at once" if any(hart in it and len(it) > 1 for it in named) else None
 
 
 SSTATUS = Verdict("breaks", "sstatus.SIE is 0 at an entry", "9.1, 9.4")

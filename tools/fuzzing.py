@@ -1,8 +1,12 @@
 """Runs of examples/kernel/fuzz.c: its image with a seed, the record that it prints, and the faults that this shows."""
+import contextlib
 import os
 import re
+import signal
 import struct
 import subprocess
+import tempfile
+import threading
 import time
 from collections import Counter
 
@@ -49,21 +53,6 @@ def image_of(image, asked):
         words[hart][number // 64] |= 1 << number % 64
     struct.pack_into(f"<{MOST_HARTS * MOST_OPERATIONS // 64}Q", data, at + 8 * len(FIELDS), *(word for row in words for word in row))
     return bytes(data)
-
-
-def printed_by(path, asked, bios, seconds):
-    """What the console has of a run under QEMU, and how it ended, in a record's words."""
-    words = ["qemu-system-riscv64", "-machine", "virt", "-smp", str(asked.harts), "-m", "128", "-display", "none", "-monitor", "none", "-serial", "stdio"]
-    machine = subprocess.Popen([*words, "-bios", bios or "default", "-kernel", path], stdin=subprocess.DEVNULL, stdout=subprocess.PIPE, stderr=subprocess.STDOUT)
-    try:
-        said, _ = machine.communicate(timeout=seconds)
-        return said, "closed" if machine.returncode else "off"
-    except subprocess.TimeoutExpired:
-        machine.kill()
-        return machine.communicate()[0], "limit"
-    finally:
-        machine.kill()
-        machine.wait()
 
 
 def record_in(console, end):
@@ -142,22 +131,70 @@ def function_in(record, number):
     return "an entry"
 
 
+class Stopped(Exception):
+    """The runs are to end."""
+
+
 class Runs:
-    """Runs of one image and firmware, in a folder."""
+    """Runs of one image and firmware, with their files in a folder. Several may go on at once."""
 
     def __init__(self, image, bios, room, seconds):
         with open(image, "rb") as file:
             self.image = file.read()
         self.bios, self.room, self.seconds, self.made = bios, room, seconds, 0
+        self.lock, self.children, self.is_stopped = threading.Lock(), {}, False
 
     def run(self, asked):
         """The verdict on a run."""
         self.made += 1
-        path = os.path.join(self.room, "fuzz.elf")
-        with open(path, "wb") as file:
-            file.write(image_of(self.image, asked))
-        console, end = printed_by(path, asked, self.bios, self.seconds)
+        with self.image_of(asked) as path:
+            console, end = self.printed_by(path, asked)
         return Verdict(record_in(console, end), asked, silence(console, end, self.seconds))
+
+    @contextlib.contextmanager
+    def image_of(self, asked):
+        """A file with the image that has these numbers."""
+        with tempfile.TemporaryDirectory(dir=self.room) as folder:
+            path = os.path.join(folder, "fuzz.elf")
+            with open(path, "wb") as file:
+                file.write(image_of(self.image, asked))
+            yield path
+
+    def printed_by(self, path, asked):
+        """What the console has of a run under QEMU, and how it ended, in a record's words."""
+        words = ["qemu-system-riscv64", "-machine", "virt", "-smp", str(asked.harts), "-m", "128", "-display", "none", "-monitor", "none", "-serial", "stdio"]
+        with self.child([*words, "-bios", self.bios or "default", "-kernel", path], signal.SIGKILL, stderr=subprocess.STDOUT) as machine:
+            try:
+                said, _ = machine.communicate(timeout=self.seconds)
+                if self.is_stopped:
+                    raise Stopped
+                return said, "closed" if machine.returncode else "off"
+            except subprocess.TimeoutExpired:
+                machine.kill()
+                return machine.communicate()[0], "limit"
+
+    @contextlib.contextmanager
+    def child(self, words, by, **how):
+        """A child that `stop` ends by this signal."""
+        with self.lock:
+            if self.is_stopped:
+                raise Stopped
+            child = subprocess.Popen(words, stdin=subprocess.DEVNULL, **({"stdout": subprocess.PIPE} | how))
+            self.children[child] = by
+        try:
+            yield child
+        finally:
+            with self.lock:
+                del self.children[child]
+                child.send_signal(by)
+            child.wait()
+
+    def stop(self):
+        """Ends what runs, and lets nothing begin."""
+        with self.lock:
+            self.is_stopped = True
+            for child, by in self.children.items():
+                child.send_signal(by)
 
     def smaller(self, verdict, key, most):
         """A verdict of the same fault on fewer operations, by bisection, in at most so many runs, and no new one behind LIMITS limits of one."""
@@ -194,6 +231,15 @@ class Runs:
 def is_of_order(key):
     """Whether a fault may depend on the order in which harts go: others come with the call alone."""
     return not key[0].startswith("breaks")
+
+
+def first_of_groups(first):
+    """Of faults with their first verdicts those to make small: each rule that is broken, and the first of each class that may depend on
+    the order: one fault shows itself in many calls."""
+    kept = {}
+    for key, verdict in first.items():
+        kept.setdefault(key[0] if is_of_order(key) else key, (key, verdict))
+    return kept.values()
 
 
 def may_lack(verdict, key):

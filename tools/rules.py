@@ -65,6 +65,7 @@ RULES = {
     "resumes keep": Rule("a non-retentive resume keeps sie, SSIP and the deadline", HARTS, OPEN, "9.4", "any"),
     "wake": Rule("SSIP with SSIE, or STIP with STIE, wakes a suspended hart", HARTS, OPEN, "9.4", 0),
     "externals": Rule("there are no external interrupts, so none wakes a hart", HARTS, OWN, "9.4", 0),
+    "at once": Rule("an IPI comes at once to all harts of its list", TIMES, OPEN, "7.1", 0),
     "starts clear": Rule("an entry by start clears sie and SSIP", TIMES, OPEN, "9.1", "any"),
     "deadlines": Rule("a stop, and an entry by start, forget the deadline", TIMES, OPEN, "9.1", "any"),
     "stimecmp": Rule("set_timer alone sets a deadline", TIMES, OWN, "6.1", 0),

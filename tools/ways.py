@@ -10,6 +10,7 @@ from differences import is_system_suspend
 from effects import Effects
 from records import is_suspend
 from rules import ignored_as
+from states import Open
 
 # How many orders are tried at one place.
 ORDERS = 200
@@ -118,7 +119,7 @@ class Ways(Effects):
                 moved, shown = state.copy(), self.shown(call.place)
                 answer = self.effect(moved, hart)
                 if shown is None or self.is_alike(moved, call.op, answer, shown):
-                    yield moved
+                    yield self.answered(moved, hart, shown)
         for hart, it in enumerate(state.board.harts):
             if it.state in (STOP_PENDING, SUSPEND_PENDING):
                 moved = state.copy()
@@ -174,7 +175,14 @@ class Ways(Effects):
     def effect_agrees(self, state, hart):
         shown, op = self.shown(state.calls[hart].place), state.calls[hart].op
         answer = self.effect(state, hart)
-        return state if self.is_alike(state, op, answer, shown) else None
+        return self.answered(state, hart, shown) if self.is_alike(state, op, answer, shown) else None
+
+    def answered(self, state, hart, shown):
+        """A call that is done, and with whose answer the order stands: it has what was recorded, whatever its target's state is later."""
+        call = state.calls.get(hart)
+        if call is not None and shown is not None:
+            state.calls[hart] = Open(call.place, call.op, shown)
+        return state
 
     def is_alike(self, state, op, answer, shown):
         """Whether the order of the lines stands with this answer. A start of a hart in a pending state may have either error."""

@@ -27,8 +27,8 @@ BAD_SCRIPT, USAGE, BAD_FILE, NO_BUILD = 1, 2, 7, 70
 FAILED_IO, WRONG_KIND = "sbiboard: input or output failed\n", "sbiboard: wrong kind of script\n"
 
 OWN_HELP = """
-The first task proves and builds its program. For run, replay and check this takes about 16 minutes on
-four processors, 26 on two; for test and explore 18 to 29 more on four. --try runs a task without proof:
+The first task proves and builds its program. For run, replay and check this takes 16 to 32 minutes on
+four processors, 26 to 52 on two; for test and explore 18 to 36 more, 29 to 58 on two. --try runs a task without proof:
   ./sbiboard --try test examples/orders/lost-wakeup.program
 Status 70: a program could not be built, or the checked run could not be made.
 """

@@ -315,24 +315,24 @@ def remove(path):
 
 # ---- the whole
 
-# The minutes of a first build on four processors: of the program of `run`, of the tester behind it, and of the tester alone. On two
-# they are so many times as many.
-MINUTES, BEHIND, ALONE, ON_TWO = 16, 25, 41, 1.6
+# The minutes of a first build on four quick processors: of the program of `run`, of the tester behind it, and of the tester alone. On
+# two they are so many times as many, and so they are on slow ones.
+MINUTES, BEHIND, ALONE, ON_TWO, ON_SLOW = 16, 18, 34, 1.6, 2
 
 
 def takes(crate):
     """How long a first build takes here, by what is known of it."""
     cores = processors()
     minutes = MINUTES if crate == PROGRAM else BEHIND if os.path.exists(program_of(PROGRAM)) else ALONE
-    about = f"about {minutes}" if cores >= 4 else f"{'about' if cores > 1 else 'more than'} {round(minutes * ON_TWO)}"
-    return f"{about} minutes here, on {cores} processor{'s' if cores > 1 else ''}"
+    least = minutes if cores >= 4 else round(minutes * ON_TWO)
+    return f"{least} to {ON_SLOW * least} minutes on {cores} processors" if cores > 1 else f"more than {least} minutes on 1 processor"
 
 
 def build(crate, task):
     """Builds a program, once it is said how long that takes."""
     must_have_toolchain()
     long = f"at most as long as at first ({takes(crate)})" if os.path.exists(program_of(crate)) else takes(crate)
-    print(f"sbiboard: the program is proved and built first, {long}; `./sbiboard --try {task} ..` runs it unproved, within two minutes", file=sys.stderr, flush=True)
+    print(f"sbiboard: the program is proved and built first, {long}; `./sbiboard --try {task} ..` runs it unproved, within four minutes", file=sys.stderr, flush=True)
     try:
         Build(crate).make()
     except OSError as error:

@@ -1,159 +1,58 @@
-//! Rows of programs on threads, some of which a gate holds back. The program prints only what holds of every schedule, and must
-//! print its file stdout.
+//! Rows of what stands round a board: its lock, refused memory, and programs on threads. The program prints only what holds of
+//! every schedule, and must print its file stdout. Its first word names one of the parts; without such a word it shows all.
 //!
-//! With any word, a thread that a gate holds back gives up after some seconds, and not after a minute. So a run ends soon in which
-//! the thread that it waits for was refused (`tests/test_rows.py`).
+//! - `locks`: real threads make calls by their seats, and keep their receipts (`locks.rt` has further words).
+//! - `memory`: calls whose allocations fail. Each call is made once; if it fails, the program prints what it returned, and makes
+//!   it again. A line that is only the name of a call stands directly before it: allocations from there to the next line are the
+//!   call's. `tests/test_refused_calls.py` refuses each allocation of each call in turn.
+//! - `threads`: programs on threads, some of which a gate holds back. With a second word, a thread that a gate holds back gives up
+//!   after some seconds, and not after a minute. So a run ends soon in which the thread that it waits for was refused
+//!   (`tests/test_rows.py`).
 #![tactic(auto)]
 
-mod gates;
-mod held;
-mod places;
-mod scripts;
-mod seen;
-mod shown;
+mod locks;
+mod memory;
+mod threads;
 
-use crate::gates::Holding;
-use crate::shown::show;
-use hart_threads::{Gate, Open, RunFault};
-use std::alloc::{AllocError, Global};
 use std::env::FillError;
 use std::io;
 use std::rt::Env;
 use std::sync::Wait;
 use std::thread::Threads;
-use std::time::Clock;
-
-/// How often a held thread looks, a millisecond apart, for the one that it waits for: only a thread that never comes takes so long.
-const LOOKS: u32 = 60_000;
-
-/// The same where a word is given.
-const FEW_LOOKS: u32 = 3_000;
 
 fn main(rt: HostRuntime) -> io::Result<()> {
-    let looks = if has_word(&rt) { FEW_LOOKS } else { LOOKS };
-    ends(&rt)?;
-    faults(&rt)?;
-    held::gate_limit(&rt, looks)?;
-    held::two_fences_cross(&rt, looks)?;
-    held::held_until_recorded(&rt, looks)?;
-    held::asked_in_order(&rt, looks)?;
-    held::refused_asks_again(&rt, looks)?;
-    held::clocks_gate(&rt, looks)?;
-    held::closed_gate_comes_first(&rt, looks)?;
-    many_ticks(&rt, looks)
-}
-
-/// Whether a word is given. (No memory is taken for it.)
-fn has_word<R: Env>(rt: &R) -> bool {
-    !matches!(rt.arg(1, &mut [0; 64]), Err(FillError::NotPresent))
-}
-
-/// A run with each end but the gate's.
-fn ends<R: AllocGlobal + Print + Threads + Wait + Sync>(rt: &R) -> io::Result<()> {
-    show(rt, "empty", scripts::EMPTY, &Open)?;
-    show(rt, "off", scripts::SHUTDOWN, &Open)?;
-    show(rt, "history-full", scripts::LONG, &Open)?;
-    show(rt, "stuck", scripts::SLEEPING, &Open)?;
-    show(rt, "quiet", scripts::STOPPING, &Open)?;
-    show(rt, "no-harts", scripts::NO_HARTS, &Open)?;
-    show(rt, "off-and-stuck", scripts::UNFINISHED, &Open)?;
-    show(rt, "off-at-the-limit", scripts::LAST, &Open)?;
-    show(rt, "quiet-at-the-limit", scripts::EXACT, &Open)?;
-    show(rt, "stuck-at-the-limit", scripts::ASLEEP, &Open)?;
-    show(rt, "run-ends, quiet", scripts::ONE_ORDER, &Open)?;
-    show(rt, "run-ends, stuck", scripts::NEVER_WOKEN, &Open)?;
-    show(rt, "run-history-full", scripts::ENTERING, &Open)?;
-    show(rt, "run-off", scripts::SHUTDOWN, &Open)?;
-    show(rt, "run-clock", scripts::ONE_TICK, &Open)
-}
-
-/// A clock does all of three thousand ticks, or as many as there is room for beside a hart that is through.
-fn many_ticks<R: AllocGlobal + Clock + Print + Threads + Wait + Sync>(
-    rt: &R,
-    looks: u32,
-) -> io::Result<()> {
-    let lines = (3000, scripts::TICK_LINE);
-    show_with(rt, "many_ticks", scripts::CLOCK, lines, &Open)?;
-    let lines = (3000, scripts::NO_TIME);
-    show_with(
-        rt,
-        "clocks_full_history",
-        scripts::SHORT_CLOCK,
-        lines,
-        &Open,
-    )?;
-    rests_before_the_clock(rt, looks)?;
-    gate_of_one(rt, looks)
-}
-
-/// Harts rest until a deadline, and meanwhile the clock is held back from its first tick, which wakes all of them.
-fn rests_before_the_clock<R: AllocGlobal + Clock + Print + Threads + Wait + Sync>(
-    rt: &R,
-    looks: u32,
-) -> io::Result<()> {
-    let holds = held::clock_after_rests();
-    show_with(
-        rt,
-        "rests_before_the_clock",
-        scripts::RESTING,
-        (2000, scripts::SIP_LINE),
-        &Holding::new(rt, looks, &holds, None),
-    )
-}
-
-/// The gate closes for one actor, a hart or the clock, while a hart rests; long after that another actor wakes this one, which
-/// goes on.
-fn gate_of_one<R: AllocGlobal + Clock + Print + Threads + Wait + Sync>(
-    rt: &R,
-    looks: u32,
-) -> io::Result<()> {
-    let lines = (2000, scripts::SIP_LINE);
-    let holds = held::clock_after_rests();
-    let gate = Holding::new(rt, looks, &holds, Some(held::turn(2, 2)));
-    show_with(rt, "gate_of_a_hart", scripts::RESTING, lines, &gate)?;
-    let holds = held::hart_2_after_rests();
-    let gate = Holding::new(rt, looks, &holds, Some(held::turn(3, 0)));
-    show_with(
-        rt,
-        "gate_of_the_clock",
-        scripts::WOKEN_BY_AN_IPI,
-        lines,
-        &gate,
-    )
-}
-
-/// Runs a script with a line added this often.
-fn show_with<G: Gate + Sync, R: AllocGlobal + Print + Threads + Wait + Sync>(
-    rt: &R,
-    name: &str,
-    head: &[u8],
-    lines: (u64, &[u8]),
-    gate: &G,
-) -> io::Result<()> {
-    match with_lines(rt.alloc(), head, lines) {
-        Ok(text) => show(rt, name, &text, gate),
-        Err(_) => println!(rt; "{name}: no memory"),
+    let word = first_word(&rt);
+    if is_asked(&word, b"locks") {
+        println!(rt; "locks")?;
+        locks::show_locks(&rt)?;
     }
-}
-
-/// A script, and a line this often.
-fn with_lines(
-    alloc: Global,
-    head: &[u8],
-    (times, line): (u64, &[u8]),
-) -> Result<Vec<u8>, AllocError> {
-    let mut text = Vec::new(alloc);
-    text.extend_from_slice(head)?;
-    for _ in 0..times {
-        text.extend_from_slice(line)?;
+    if is_asked(&word, b"memory") {
+        println!(rt; "memory")?;
+        memory::show_refusals(&rt);
     }
-    Ok(text)
-}
-
-/// What is said of each fault.
-fn faults<R: Print>(rt: &R) -> io::Result<()> {
-    for fault in [RunFault::BadConfig, RunFault::NoMemory, RunFault::NoThread] {
-        println!(rt; "fault {}: {fault}", fault.number())?;
+    if is_asked(&word, b"threads") {
+        println!(rt; "threads")?;
+        threads::show_runs(&rt, has_second_word(&rt))?;
     }
     Ok(())
+}
+
+/// The first word, with zeros behind it. (No memory is taken for it: it may be refused.)
+fn first_word<R: Env>(rt: &R) -> [u8; 64] {
+    let mut word = [0; 64];
+    let _ = rt.arg(1, &mut word);
+    word
+}
+
+/// Whether a part is shown: its name is the first word, or that names none.
+fn is_asked(word: &[u8], part: &[u8]) -> bool {
+    word.starts_with(part) || !is_name(word)
+}
+
+fn is_name(word: &[u8]) -> bool {
+    word.starts_with(b"locks") || word.starts_with(b"memory") || word.starts_with(b"threads")
+}
+
+fn has_second_word<R: Env>(rt: &R) -> bool {
+    !matches!(rt.arg(2, &mut [0; 64]), Err(FillError::NotPresent))
 }
