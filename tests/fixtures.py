@@ -34,7 +34,7 @@ RUNS_OF_EACH = 500
 MANY = 600
 
 # The seconds that only a hang takes; a slower build of the program is given more.
-HANG = int(os.environ.get("HANG_SECONDS", "20"))
+HANG = int(os.environ.get("HANG_SECONDS", "120"))
 
 
 def program_of(crate):
