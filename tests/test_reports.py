@@ -140,6 +140,8 @@ WRONG = [
     ("a fence that never returns", TWO + call(RFENCE, 0, 3) + "m end limit\n", "return", 6),
     ("a call that never returns, of a hart that enters again", TWO + call(IPI, 0, 1, hart=1) + answered(HSM, 0, 1, 0x80200100, 9) + "1 entry 0x80200100 1 9\n", "return", 6),
     ("a hart that never enters", BOOT + answered(HSM, 0, 1, 0x80200100, 7) + "m end limit\n", "enter", 3),
+    ("a hart that never enters, and is STARTED", BOOT + answered(HSM, 0, 1, 0x80200100, 7) + answered(HSM, 2, 1) + "m end limit\n", "enter", 3),
+    ("a hart that never enters, and is SUSPENDED", BOOT + answered(HSM, 0, 1, 0x80200100, 7) + answered(HSM, 2, 1, ret="0 4") + "m end limit\n", UNEXPLAINED, 5),
     ("a hart that never enters, and the machine is off", BOOT + answered(HSM, 0, 1, 0x80200100, 7) + call(SRST, 0, 0) + "m end off\n", "enter", 3),
     ("a hart that never enters, at a far page", BOOT + answered(HSM, 0, 1, 0x80a00000, 7) + "m end limit\n", "enter", 3),
     ("a hart that never enters before a reset", BOOT + answered(HSM, 0, 1, 0x80200100, 7) + "m reset\n0 entry 0x80200000 0 0x87e00000\n", "enter", 3),
