@@ -1,5 +1,6 @@
 //! The worked rows. The program prints what no script can show (its file stdout), reads the files of rows that its words name,
-//! replays each row, and prints what differs. All that a replay prints must be a trace with which `check` agrees.
+//! replays each row, and prints what differs. All that a replay prints must be a trace with which `check` agrees. The word
+//! `devices` stands for the rows of devices that fail.
 //!
 //! A line `row NAME` begins a row. The lines after it are a schedule, written as a trace: the reply behind `->` is the one that
 //! the board must give. Then one of these may follow:
@@ -16,22 +17,38 @@
 mod built;
 mod components;
 mod debugging;
+mod devices;
 mod needs;
 mod printing;
 mod row;
 
+use crate::devices::show_devices;
 use crate::row::{Row, check, check_cases, check_outcomes, check_text, check_traces};
 use anyhow::{Context, Result};
 use std::rt::{Env, Files};
+use std::sync::Wait;
+use std::thread::Threads;
 use std::{env, fs};
 
 fn main(rt: HostRuntime) -> Result<()> {
     show(&rt)?;
     let names = env::args(&rt)?.collect::<Vec<String>>(rt.alloc())?;
     for name in names.iter().skip(1) {
-        check_file(&rt, name)?;
+        check_part(&rt, name)?;
     }
     Ok(())
+}
+
+/// Checks the rows of a file, or those of devices.
+fn check_part<R: AllocGlobal + Files + Print + Threads + Wait + Sync>(
+    rt: &R,
+    name: &str,
+) -> Result<()> {
+    if name == "devices" {
+        show_devices(rt)
+    } else {
+        check_file(rt, name)
+    }
 }
 
 /// Shows what no script can.

@@ -1,7 +1,7 @@
 //! Devices over readers and writers that move a few bytes at a call, or fail.
 
-use crate::failing::{ANSWERS, Answer, Failing};
-use crate::failures::{LibraryTask, SCHEDULE};
+use crate::devices::failing::{ANSWERS, Answer, Failing};
+use crate::devices::failures::{LibraryTask, SCHEDULE};
 use anyhow::{Result, ensure};
 use monitor::{Failed, Sink};
 use sbiboard::{Device, Outcome, Source};

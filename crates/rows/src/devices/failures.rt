@@ -2,7 +2,7 @@
 
 ghost use Rattle.std.specs.Prelude.{◌^◌, ◌<◌};
 
-use crate::failing::{ANSWERS, Answer, Failing};
+use crate::devices::failing::{ANSWERS, Answer, Failing};
 use anyhow::{Result, ensure};
 use hart_threads::Open;
 use monitor::Sink;
