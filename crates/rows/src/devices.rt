@@ -6,7 +6,7 @@ mod cuts;
 mod failing;
 mod failures;
 
-use crate::devices::failures::LibraryTask;
+use crate::devices::failures::{LibraryTask, Side, check_calls};
 use anyhow::Result;
 use std::sync::Wait;
 use std::thread::Threads;
@@ -29,8 +29,8 @@ fn show_failures<R: AllocGlobal + Print + Threads + Wait + Sync>(
     task: LibraryTask,
     name: &str,
 ) -> Result<()> {
-    let reads = failures::check_reads(rt, task)?;
-    let writes = failures::check_writes(rt, task)?;
+    let reads = check_calls(rt, task, Side::Reads)?;
+    let writes = check_calls(rt, task, Side::Writes)?;
     println!(rt; "{name}: {reads} reads, {writes} writes")?;
     Ok(())
 }
