@@ -47,15 +47,18 @@ pub fn show_built<R: AllocGlobal + Print>(rt: &R) -> Result<()> {
         advance(MOST, 1, None),
         advance(MOST + 1, 1, None),
     ];
-    let built = Body::Schedule(show_added(rt, &schedule)?);
-    println!(rt; "built:{}", told(&built, rt.alloc())?)?;
+    show_body(rt, &Body::Schedule(show_added(rt, &schedule)?))?;
     let trace = [
         advance(1, 0, done),
         advance(2, 0, None),
         advance(3, 2, done),
     ];
-    let built = Body::Trace(show_added(rt, &trace)?);
-    println!(rt; "built:{}", told(&built, rt.alloc())?)?;
+    show_body(rt, &Body::Trace(show_added(rt, &trace)?))
+}
+
+/// Prints the lines of a schedule or a trace.
+fn show_body<R: AllocGlobal + Print>(rt: &R, body: &Body) -> Result<()> {
+    println!(rt; "built:{}", told(body, rt.alloc())?)?;
     Ok(())
 }
 

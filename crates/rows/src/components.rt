@@ -10,6 +10,7 @@ use monitor::Failed;
 use sbi_abi::SbiError;
 use sbiboard::{NoOutcome, Outcome, ReadFault, ended};
 use std::alloc::AllocError;
+use std::fmt::Display;
 use std::io::{self, ErrorKind};
 
 /// Shows a set's size, and its ids in their order.
@@ -123,6 +124,11 @@ pub fn show_timers<R: AllocGlobal + Print>(rt: &R) -> io::Result<()> {
     Ok(())
 }
 
+/// Prints the number and the text of an error.
+fn show_error<R: Print, N: Display, E: Display>(rt: &R, number: &N, error: &E) -> io::Result<()> {
+    println!(rt; "{number} {error}")
+}
+
 /// The numbers and texts of the components' errors.
 pub fn show_errors<R: Print>(rt: &R) -> io::Result<()> {
     for error in [
@@ -137,7 +143,7 @@ pub fn show_errors<R: Print>(rt: &R) -> io::Result<()> {
         SbiError::from(InvalidParam),
         SbiError::from(AlreadyAvailable),
     ] {
-        println!(rt; "{} {error}", error.number())?;
+        show_error(rt, &error.number(), &error)?;
     }
     for refusal in [
         Refusal::Off,
@@ -146,14 +152,14 @@ pub fn show_errors<R: Print>(rt: &R) -> io::Result<()> {
         Refusal::HistoryFull,
         Refusal::TimeFull,
     ] {
-        println!(rt; "{} {refusal}", refusal.number())?;
+        show_error(rt, &refusal.number(), &refusal)?;
     }
     for fault in [
         BuildFault::BadConfig,
         BuildFault::NoMemory,
         BuildFault::CutFull,
     ] {
-        println!(rt; "{} {fault}", fault.number())?;
+        show_error(rt, &fault.number(), &fault)?;
     }
     println!(rt; "{InvalidParam}; {AlreadyAvailable}; {TimeFull}")
 }

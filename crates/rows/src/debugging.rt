@@ -11,7 +11,7 @@ use board_lock::{HartNow, HartView, Rest};
 use conditions::conditions;
 use fence_queue::Request;
 use guest_programs::{End, Met, RunFault, Step};
-use guest_script::{Body, FaultKind, Lines, ScriptFault, parse};
+use guest_script::{Body, FaultKind, Lines, Script, ScriptFault, parse};
 use hart_access::{Access, Accessed, Way};
 use hart_mask::{HartSet, InvalidParam};
 use hart_threads::Open;
@@ -85,6 +85,16 @@ const ASKED: &[u8] = b"#!never _ load 0x10 -> value 5\n#!end off stuck\n";
 
 const NOT_ASKED: &[u8] = b"#!often\n";
 
+/// Prints a value.
+fn put<R: Print, T: Debug>(rt: &R, value: &T) -> io::Result<()> {
+    println!(rt; "{value:?}")
+}
+
+/// Prints two values.
+fn put_two<R: Print, T: Debug, U: Debug>(rt: &R, one: &T, other: &U) -> io::Result<()> {
+    println!(rt; "{one:?} {other:?}")
+}
+
 /// Shows the types of calls, sets and states.
 pub fn show_harts<R: Print>(rt: &R) -> io::Result<()> {
     let reset = Reset {
@@ -100,19 +110,19 @@ pub fn show_harts<R: Print>(rt: &R) -> io::Result<()> {
         addr: 1,
         opaque: 2,
     });
-    println!(rt; "{REGS:?}")?;
-    println!(rt; "{call:?}")?;
-    println!(rt; "{:?}", SuspendKind::NonRetentive)?;
-    println!(rt; "{ret:?}")?;
-    println!(rt; "{:?}", SbiError::AlreadyStopped)?;
-    println!(rt; "{reset:?}")?;
-    println!(rt; "{:?}", ResetKind::ColdReboot)?;
-    println!(rt; "{InvalidParam:?}")?;
-    println!(rt; "{:?}", HartState::ResumePending)?;
-    println!(rt; "{KEPT:?}")?;
-    println!(rt; "{:?}", Moved::Entered(KEPT))?;
-    println!(rt; "{AlreadyAvailable:?}")?;
-    println!(rt; "{TimeFull:?}")
+    put(rt, &REGS)?;
+    put(rt, &call)?;
+    put(rt, &SuspendKind::NonRetentive)?;
+    put(rt, &ret)?;
+    put(rt, &SbiError::AlreadyStopped)?;
+    put(rt, &reset)?;
+    put(rt, &ResetKind::ColdReboot)?;
+    put(rt, &InvalidParam)?;
+    put(rt, &HartState::ResumePending)?;
+    put(rt, &KEPT)?;
+    put(rt, &Moved::Entered(KEPT))?;
+    put(rt, &AlreadyAvailable)?;
+    put(rt, &TimeFull)
 }
 
 /// Shows the types of memory, caches and fences.
@@ -136,25 +146,25 @@ pub fn show_memory<R: Print>(rt: &R) -> io::Result<()> {
         number: 2,
         item: word,
     };
-    println!(rt; "{:?}", AmoFunction::Minu)?;
-    println!(rt; "{:?}", Amo::Half(AmoFunction::Swap, 9))?;
-    println!(rt; "{:?}", AmoName::Cas)?;
-    println!(rt; "{:?}", Kind::Fetch)?;
-    println!(rt; "{:?}", Cause::StorePageFault)?;
-    println!(rt; "{:?}", Level::Kilo)?;
-    println!(rt; "{LEAF:?}")?;
-    println!(rt; "{SPACES:?}")?;
-    println!(rt; "{address:?}")?;
-    println!(rt; "{entry:?}")?;
-    println!(rt; "{word:?}")?;
-    println!(rt; "{numbered:?}")?;
-    println!(rt; "{RANGE:?}")?;
-    println!(rt; "{FENCE:?}")?;
-    println!(rt; "{:?}", Flush::Entries(FENCE))?;
-    println!(rt; "{:?}", Access::Store(2))?;
-    println!(rt; "{accessed:?}")?;
-    println!(rt; "{:?}", Way::Fill(entry))?;
-    println!(rt; "{request:?}")
+    put(rt, &AmoFunction::Minu)?;
+    put(rt, &Amo::Half(AmoFunction::Swap, 9))?;
+    put(rt, &AmoName::Cas)?;
+    put(rt, &Kind::Fetch)?;
+    put(rt, &Cause::StorePageFault)?;
+    put(rt, &Level::Kilo)?;
+    put(rt, &LEAF)?;
+    put(rt, &SPACES)?;
+    put(rt, &address)?;
+    put(rt, &entry)?;
+    put(rt, &word)?;
+    put(rt, &numbered)?;
+    put(rt, &RANGE)?;
+    put(rt, &FENCE)?;
+    put(rt, &Flush::Entries(FENCE))?;
+    put(rt, &Access::Store(2))?;
+    put(rt, &accessed)?;
+    put(rt, &Way::Fill(entry))?;
+    put(rt, &request)
 }
 
 /// Shows the types of a board.
@@ -172,27 +182,29 @@ pub fn show_board<R: Print>(rt: &R) -> io::Result<()> {
         applied: 5,
         waiting: 6,
     };
-    println!(rt; "{CONFIG:?}")?;
-    println!(rt; "{:?}", BuildFault::NoMemory)?;
-    println!(rt; "{:?}", Actor::Hart(3))?;
-    println!(rt; "{:?}", Op::Sfence(None, Some(4)))?;
-    println!(rt; "{entered:?}")?;
-    println!(rt; "{:?} {:?}", Refusal::TimeFull, Phase::Inside)?;
-    println!(rt; "{totals:?}")?;
-    println!(rt; "{:?}", Sie::of(0x20))
+    put(rt, &CONFIG)?;
+    put(rt, &BuildFault::NoMemory)?;
+    put(rt, &Actor::Hart(3))?;
+    put(rt, &Op::Sfence(None, Some(4)))?;
+    put(rt, &entered)?;
+    put_two(rt, &Refusal::TimeFull, &Phase::Inside)?;
+    put(rt, &totals)?;
+    put(rt, &Sie::of(0x20))
 }
 
 /// Shows the types of scripts.
 pub fn show_scripts<R: AllocGlobal + Print>(rt: &R) -> Result<()> {
-    println!(rt; "{:?}", parse(rt.alloc(), PROGRAM)?)?;
-    println!(rt; "{:?}", lines_of(rt.alloc(), TRACE)?.first())?;
+    put(rt, &script(rt.alloc(), PROGRAM)?)?;
+    put(rt, &lines_of(rt.alloc(), TRACE)?.first())?;
     Ok(())
 }
 
 /// Shows the types of conditions.
 pub fn show_conditions<R: AllocGlobal + Print>(rt: &R) -> io::Result<()> {
-    println!(rt; "{:?}", conditions(rt.alloc(), ASKED))?;
-    println!(rt; "{:?}", conditions(rt.alloc(), NOT_ASKED))
+    for text in [ASKED, NOT_ASKED] {
+        put(rt, &conditions(rt.alloc(), text))?;
+    }
+    Ok(())
 }
 
 /// Shows the types of views, rests and steps.
@@ -208,7 +220,7 @@ pub fn show_threads<R: Print>(rt: &R) -> io::Result<()> {
         is_off: false,
         events: 3,
     };
-    println!(rt; "{view:?}")?;
+    put(rt, &view)?;
     println!(rt;
         "{:?} {:?} {:?}",
         Rest::AllRest,
@@ -223,19 +235,23 @@ pub fn show_ends<R: Print>(rt: &R) -> io::Result<()> {
         line: 3,
         fault: FaultKind::BadNumber,
     };
-    println!(rt; "{fault:?}")?;
+    put(rt, &fault)?;
     println!(rt; "{:?} {:?} {Open:?}", End::GateLimit, RunFault::NoThread)?;
-    println!(rt; "{:?} {:?}", Subcommand::Check("a"), Outcome::Stuck)?;
-    println!(rt; "{:?} {Failed:?}", ReadFault::Script(fault))?;
-    println!(rt;
-        "{:?}",
-        NoOutcome::from(io::Error::from(io::ErrorKind::NotFound))
+    put_two(rt, &Subcommand::Check("a"), &Outcome::Stuck)?;
+    put_two(rt, &ReadFault::Script(fault), &Failed)?;
+    put(
+        rt,
+        &NoOutcome::from(io::Error::from(io::ErrorKind::NotFound)),
     )
+}
+
+fn script(alloc: Global, text: &[u8]) -> Result<Script> {
+    Ok(parse(alloc, text)?)
 }
 
 /// The lines of a schedule or a trace.
 fn lines_of(alloc: Global, text: &[u8]) -> Result<Lines> {
-    match parse(alloc, text)?.body {
+    match script(alloc, text)?.body {
         Body::Schedule(lines) | Body::Trace(lines) => Ok(lines),
         Body::Empty | Body::Program { .. } => bail!("no lines"),
     }
@@ -307,8 +323,9 @@ pub fn show_private_events<R: AllocGlobal + Print>(rt: &R) -> Result<()> {
 }
 
 fn show_events_of<R: AllocGlobal + Print>(rt: &R, board: &mut Board) -> Result<()> {
-    board.step(Actor::Clock, Op::Tick(1))?;
-    board.step(Actor::Clock, Op::Tick(2))?;
+    for n in [1, 2] {
+        board.step(Actor::Clock, Op::Tick(n))?;
+    }
     let first = board.history().first().context("no event")?;
     tell(
         rt,

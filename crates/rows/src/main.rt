@@ -1,5 +1,6 @@
 //! The worked rows. The program prints what no script can show (its file stdout), reads the files of rows that its words name,
-//! replays each row, and prints what differs. All that a replay prints must be a trace with which `check` agrees.
+//! replays each row, and prints what differs. All that a replay prints must be a trace with which `check` agrees. The word
+//! `devices` stands for the rows of devices that fail.
 //!
 //! A line `row NAME` begins a row. The lines after it are a schedule, written as a trace: the reply behind `->` is the one that
 //! the board must give. Then one of these may follow:
@@ -16,22 +17,41 @@
 mod built;
 mod components;
 mod debugging;
+mod devices;
+mod judging;
 mod needs;
 mod printing;
 mod row;
 
-use crate::row::{Row, check, check_cases, check_outcomes, check_text, check_traces};
-use anyhow::{Context, Result};
+use crate::devices::show_devices;
+use crate::judging::ScriptTask;
+use crate::row::{Row, check, check_cases, check_states, check_text, halves};
+use anyhow::Result;
+use std::alloc::Global;
 use std::rt::{Env, Files};
+use std::sync::Wait;
+use std::thread::Threads;
 use std::{env, fs};
 
 fn main(rt: HostRuntime) -> Result<()> {
     show(&rt)?;
     let names = env::args(&rt)?.collect::<Vec<String>>(rt.alloc())?;
     for name in names.iter().skip(1) {
-        check_file(&rt, name)?;
+        check_part(&rt, name)?;
     }
     Ok(())
+}
+
+/// Checks the rows of a file, or those of devices.
+fn check_part<R: AllocGlobal + Files + Print + Threads + Wait + Sync>(
+    rt: &R,
+    name: &str,
+) -> Result<()> {
+    if name == "devices" {
+        show_devices(rt)
+    } else {
+        check_file(rt, name)
+    }
 }
 
 /// Shows what no script can.
@@ -80,7 +100,7 @@ fn check_file<R: AllocGlobal + Files + Print>(rt: &R, name: &str) -> Result<()> 
 
 /// Checks a row, whose name is the text's first line, and prints what differs.
 fn tell_row<R: AllocGlobal + Print>(rt: &R, row: &str) -> Result<()> {
-    if let Err(why) = check_row(rt, row) {
+    if let Err(why) = check_row(rt.alloc(), row) {
         let name = row.lines().next().unwrap_or("");
         println!(rt; "{name}: {why}")?;
     }
@@ -89,45 +109,47 @@ fn tell_row<R: AllocGlobal + Print>(rt: &R, row: &str) -> Result<()> {
 
 /// The lines after a row's name, if there are any.
 fn after_name(lines: &str) -> &str {
-    lines.split_once('\n').map_or("", |(_, after)| after)
+    match lines.split_once('\n') {
+        Some((_, after)) => after,
+        None => "",
+    }
 }
 
 /// Checks a row, whose name is the text's first line.
-fn check_row<R: AllocGlobal>(rt: &R, text: &str) -> Result<()> {
+fn check_row(alloc: Global, text: &str) -> Result<()> {
     if let Some((lines, cases)) = text.split_once("\nsays\n") {
-        return check_outcomes(rt.alloc(), after_name(lines), cases);
+        return check_cases(alloc, ScriptTask::Replay, after_name(lines), cases);
     }
     if let Some((lines, cases)) = text.split_once("\nchecks\n") {
-        return check_traces(rt.alloc(), after_name(lines), cases);
+        return check_cases(alloc, ScriptTask::Check, after_name(lines), cases);
     }
-    let (_, body) = text.split_once('\n').context("no lines")?;
+    let (_, body) = halves(text, "\n")?;
     if let Some((lines, cases)) = body.split_once("\neach ") {
-        let (state, cases) = cases.split_once('\n').context("no cases")?;
-        return check_cases(rt.alloc(), lines, state, cases);
+        let (state, cases) = halves(cases, "\n")?;
+        return check_states(alloc, lines, state, cases);
     }
-    match body.split_once("\nprints ") {
-        Some((schedule, end)) => check_prints(rt, schedule, end),
-        None => check_ends(rt, body),
-    }
+    check_schedule(alloc, body)
 }
 
-/// Checks a schedule that must print all of a text, before which its status stands.
-fn check_prints<R: AllocGlobal>(rt: &R, schedule: &str, end: &str) -> Result<()> {
-    let (status, printed) = end.split_once('\n').context("no text")?;
-    let status = status.parse::<u8>()?;
-    check_text(rt.alloc(), schedule, status, printed)
-}
-
-/// Checks a schedule with its replies, and its end if it has one.
-fn check_ends<R: AllocGlobal>(rt: &R, body: &str) -> Result<()> {
+/// Checks a schedule: all that it must print, or its replies and its end if it has one.
+fn check_schedule(alloc: Global, body: &str) -> Result<()> {
+    if let Some((schedule, end)) = body.split_once("\nprints ") {
+        let (status, printed) = ended(end)?;
+        return check_text(alloc, schedule, status, printed);
+    }
     let (lines, end) = body.split_once("\nends ").unwrap_or((body, "0\n"));
-    let (status, shown) = end.split_once('\n').context("no status")?;
-    let status = status.parse::<u8>()?;
+    let (status, shown) = ended(end)?;
     let row = Row {
         lines,
         status,
         shown,
     };
-    let _ = check(rt.alloc(), row)?;
+    let _ = check(alloc, row)?;
     Ok(())
+}
+
+/// The status of an end, and what stands after it.
+fn ended(end: &str) -> Result<(u8, &str)> {
+    let (status, after) = halves(end, "\n")?;
+    Ok((status.parse::<u8>()?, after))
 }

@@ -2,7 +2,7 @@
 ghost use Rattle.std.specs.Prelude.{◌<◌};
 
 use anyhow::Result;
-use board_core::{Actor, Board, Config, Op, Phase, USUAL_ASID_LEN, USUAL_WIDTH};
+use board_core::{Actor, Board, Config, Op, Phase, Refusal, USUAL_ASID_LEN, USUAL_WIDTH};
 use sbi_abi::Regs;
 use std::alloc::Global;
 use std::io;
@@ -43,18 +43,27 @@ fn started(alloc: Global, harts: u64) -> Result<Board> {
     Ok(board)
 }
 
-fn start_all(board: &mut Board, harts: u64) -> Result<()> {
-    board.step(Actor::Hart(0), Op::Advance)?;
+/// A step of a hart.
+fn step(board: &mut Board, h: u64, op: Op) -> Result<(), Refusal> {
+    match board.step(Actor::Hart(h), op) {
+        Ok(_) => Ok(()),
+        Err(refusal) => Err(refusal),
+    }
+}
+
+/// Starts all harts.
+fn start_all(board: &mut Board, harts: u64) -> Result<(), Refusal> {
+    step(board, 0, Op::Advance)?;
     for h in 1..harts {
-        board.step(Actor::Hart(0), ecall(HSM, 0, h, START, 0))?;
-        board.step(Actor::Hart(h), Op::Advance)?;
+        step(board, 0, ecall(HSM, 0, h, START, 0))?;
+        step(board, h, Op::Advance)?;
     }
     Ok(())
 }
 
 /// Makes a step, and prints whether it was accepted, which harts are inside a fence call now, and what their calls need.
 fn show_step<R: Print>(rt: &R, board: &mut Board, h: u64, name: &str, op: Op) -> io::Result<()> {
-    let accepted = board.step(Actor::Hart(h), op).is_ok();
+    let accepted = step(board, h, op).is_ok();
     print!(rt; "{h} {name}: {accepted}")?;
     for caller in 0..board.config().harts {
         show_call(rt, board, caller)?;
@@ -75,8 +84,13 @@ fn show_call<R: Print>(rt: &R, board: &Board, caller: u64) -> io::Result<()>
     Ok(())
 }
 
+/// What the call of hart `caller` needs of hart `t`.
+fn need(board: &Board, caller: u64, t: u64) -> u64 {
+    board.need(caller, t)
+}
+
 fn show_need<R: Print>(rt: &R, board: &Board, caller: u64, t: u64) -> io::Result<()> {
-    let need = board.need(caller, t);
+    let need = need(board, caller, t);
     if need > 0 {
         print!(rt; " ({caller} {t} {need})")?;
     }
@@ -118,17 +132,17 @@ fn show_steps<R: Print>(rt: &R, board: &mut Board, steps: &[(u64, &str, Op)]) ->
 /// What is needed by harts that aren't there, and of such.
 fn show_absent<R: Print>(rt: &R, board: &Board) -> io::Result<()> {
     for (caller, t) in [(0, 3), (3, 1), (0, u64::MAX), (u64::MAX, 1)] {
-        print!(rt; "{} ", board.need(caller, t))?;
+        print!(rt; "{} ", need(board, caller, t))?;
     }
     println!(rt; "where no hart is")
 }
 
 /// Hart `t` serves as often as the call of hart `caller` needs of it. Returns whether the call could be polled before a serve.
-fn serve_all(board: &mut Board, caller: u64, t: u64) -> Result<bool> {
+fn serve_all(board: &mut Board, caller: u64, t: u64) -> Result<bool, Refusal> {
     let mut polled = false;
-    for _ in 0..board.need(caller, t) {
-        polled |= board.step(Actor::Hart(caller), Op::Poll).is_ok();
-        board.step(Actor::Hart(t), Op::Serve)?;
+    for _ in 0..need(board, caller, t) {
+        polled |= step(board, caller, Op::Poll).is_ok();
+        step(board, t, Op::Serve)?;
     }
     Ok(polled)
 }
@@ -143,17 +157,17 @@ fn show_crossfire<R: AllocGlobal + Print>(rt: &R, harts: u64) -> Result<()> {
 /// The same on this board.
 fn show_crossfire_on<R: Print>(rt: &R, board: &mut Board, harts: u64) -> Result<()> {
     for h in 0..harts {
-        board.step(Actor::Hart(h), fence(0, u64::MAX))?;
+        step(board, h, fence(0, u64::MAX))?;
     }
     let last = harts.saturating_sub(1);
-    let busiest = board.need(last, 0);
+    let busiest = need(board, last, 0);
     let before = board.history().len();
     let mut early = false;
     for t in 0..last {
         early |= serve_all(board, last, t)?;
     }
     let serves = board.history().len().saturating_sub(before);
-    let polled = board.step(Actor::Hart(last), Op::Poll).is_ok();
+    let polled = step(board, last, Op::Poll).is_ok();
     println!(rt;
         "{harts} harts: {busiest} serves of hart 0, {serves} of all; polled before: {early}, then: {polled}"
     )?;

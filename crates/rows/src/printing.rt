@@ -66,10 +66,24 @@ fn put_event_of<W: Sink>(board: &mut Board, out: &mut W) -> Result<()>
     requires { W.failures out.old < 2 ^ 63 }
     ensures { OnOk result (W.failures out.new ≡ W.failures out.old) }
 {
-    board.step(Actor::Hart(0), Op::Advance)?;
-    board.step(Actor::Hart(0), ecall(0x10, [0; 6]))?;
+    for op in [Op::Advance, ecall(0x10, [0; 6])] {
+        board.step(Actor::Hart(0), op)?;
+    }
     let event = board.history().last().context("no event")?;
     print_event(event, out)?;
+    Ok(())
+}
+
+/// Prints a line.
+fn put_line<W: Sink>(
+    doing: Doing,
+    answer: Result<Reply, Refusal>,
+    out: &mut W,
+) -> Result<(), Failed>
+    requires { W.failures out.old < 2 ^ 63 }
+    ensures { OnOk result (W.failures out.new ≡ W.failures out.old) }
+{
+    print_line(doing, answer, out)?;
     Ok(())
 }
 
@@ -85,11 +99,11 @@ fn put_replies<W: Sink>(out: &mut W) -> Result<(), Failed>
         opaque: most,
     };
     let ticks = step(Actor::Clock, Op::Advance);
-    print_line(ticks, Err(Refusal::WrongPhase), out)?;
+    put_line(ticks, Err(Refusal::WrongPhase), out)?;
     let calls = step(Actor::Hart(most), long);
-    print_line(calls, Ok(ret(i64::MIN, most)), out)?;
+    put_line(calls, Ok(ret(i64::MIN, most)), out)?;
     let enters = step(Actor::Hart(127), Op::Advance);
-    print_line(enters, Ok(entry), out)?;
-    print_line(Doing::Cut, Ok(Reply::Done), out)?;
+    put_line(enters, Ok(entry), out)?;
+    put_line(Doing::Cut, Ok(Reply::Done), out)?;
     print_reply(Ok(ret(-2, 0)), out)
 }

@@ -17,10 +17,11 @@ mod single;
 mod splitting;
 mod working;
 
+use crate::calls::opened_board;
 use crate::locks::closing::closed;
 use crate::locks::parting::{Parts, go_on};
 use crate::locks::seen::{Noted, Seen, Why};
-use crate::locks::working::{Work, ipi};
+use crate::locks::working::{Callers, RepeatedCall, Work, ipi, ipis};
 use board_core::{Config, Op, USUAL_ASID_LEN, USUAL_WIDTH};
 use board_lock::{NewRoom, Receipt, Room, Seat, SharedBoard};
 use std::marker::Brand;
@@ -88,10 +89,14 @@ fn asked(words: &[String]) -> Option<Row> {
         _ => return None,
     };
     Some(Row::Repeat {
-        harts: harts.parse().ok()?,
-        calls: calls.parse().ok()?,
+        harts: number(harts)?,
+        calls: number(calls)?,
         op,
     })
+}
+
+fn number(word: &str) -> Option<u64> {
+    word.parse().ok()
 }
 
 /// The parts that the words ask for.
@@ -103,9 +108,9 @@ fn parts_asked(words: &[String]) -> Option<Parts> {
         return None;
     }
     Some(Parts {
-        parts: parts.parse().ok()?,
-        harts: harts.parse().ok()?,
-        calls: calls.parse().ok()?,
+        parts: number(parts)?,
+        harts: number(harts)?,
+        calls: number(calls)?,
     })
 }
 
@@ -173,7 +178,7 @@ fn in_room<K: Room + Send + Sync, R: AllocGlobal + Clock + Threads + Wait + Sync
     requires room { (K.opening ≡ opening_at room.config) × (room.log ≡ K.log) }
     requires ledger { (room.ledger ≡ K.name) × (room.parts ≡ K.parts) × (K.all ≡ K.parts) }
 {
-    let (shared, seats) = SharedBoard::<K>::open(rt.alloc(), room)?;
+    let (shared, seats) = opened_board::<K>(rt.alloc(), room)?;
     do_row(rt, shared, seats, config, row)
 }
 
@@ -208,11 +213,12 @@ fn work<K: Room + Send + Sync, R: AllocGlobal + Clock + Threads + Wait + Sync>(
             Ok(Noted::Split)
         }
         Row::SeatsMissing => Ok(Noted::Closes),
-        Row::IpiStorm => many::storm(rt, shared, seats, receipts, Work::SendIpis),
+        Row::IpiStorm => many::storm(rt, shared, seats, receipts, Work::Keep(ipis())),
         Row::AllFence => many::storm(rt, shared, seats, receipts, Work::Fence),
         Row::EndOfRests => resting::rests(rt, shared, seats, receipts),
         Row::Repeat { harts, calls, op } => {
-            let todo = Work::Repeat { harts, calls, op };
+            let callers = Callers::First(harts);
+            let todo = Work::Repeat(RepeatedCall { callers, calls, op });
             many::timed(rt, shared, seats, receipts, todo)
         }
     }

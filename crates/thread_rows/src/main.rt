@@ -10,6 +10,7 @@
 //!   (`tests/test_rows.py`).
 #![tactic(auto)]
 
+mod calls;
 mod locks;
 mod memory;
 mod threads;

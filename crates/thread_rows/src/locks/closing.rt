@@ -2,6 +2,7 @@
 
 ghost use Rattle.std.specs.Prelude.{◌≡◌};
 
+use crate::calls::closed_board;
 use crate::locks::seen::Why;
 use board_lock::{NotAll, Record, Room, Seat, SharedBoard};
 use std::alloc::AllocError;
@@ -10,7 +11,7 @@ use std::alloc::AllocError;
 fn refused<K: Room>(open: NotAll<K>) -> Result<NotAll<K>, Why>
     requires { K.all ≡ K.parts }
 {
-    match open.board.close(open.seats) {
+    match closed_board(open) {
         Ok(_) => Err(Why::Accepted),
         Err(not_all) => Ok(not_all),
     }
@@ -61,7 +62,7 @@ pub fn closed<K: Room>(
         seats,
     };
     let (open, back) = refusals(open, &mut missing)?;
-    match open.board.close(open.seats) {
+    match closed_board(open) {
         Ok(record) => Ok((record, back)),
         Err(_) => Err(Why::Seats),
     }

@@ -1,5 +1,6 @@
 //! Every hart and the clock on a thread of its own.
 
+use crate::calls::called_only;
 use crate::locks::seen::{Noted, Why};
 use crate::locks::working::{Work, Worked, call, do_work};
 use board_core::{Actor, Op, Refusal};
@@ -19,35 +20,14 @@ fn start<K: Room, R: Wait>(
     let Some((boot, others)) = seats.split_first_mut() else {
         return Ok(());
     };
-    shared.call(rt, boot, Op::Advance)?;
-    start_others(rt, shared, boot, others)
-}
-
-/// Starts the harts from 1 on. The last seat is the clock's.
-fn start_others<K: Room, R: Wait>(
-    rt: &R,
-    shared: &SharedBoard<K>,
-    boot: &mut Seat<K>,
-    seats: &mut [Seat<K>],
-) -> Result<(), Refusal> {
-    for seat in seats {
+    called_only(rt, shared, boot, Op::Advance)?;
+    for seat in others {
         if let Actor::Hart(hart) = seat.actor() {
-            start_hart(rt, shared, boot, seat, hart)?;
+            let start = call(0x48534D, 0, [hart, 0x8000_0000, 0, 0, 0, 0]);
+            called_only(rt, shared, boot, start)?;
+            called_only(rt, shared, seat, Op::Advance)?;
         }
     }
-    Ok(())
-}
-
-/// Starts a hart, and enters it by its seat.
-fn start_hart<K: Room, R: Wait>(
-    rt: &R,
-    shared: &SharedBoard<K>,
-    boot: &mut Seat<K>,
-    seat: &mut Seat<K>,
-    hart: u64,
-) -> Result<(), Refusal> {
-    shared.call(rt, boot, call(0x48534D, 0, [hart, 0x8000_0000, 0, 0, 0, 0]))?;
-    shared.call(rt, seat, Op::Advance)?;
     Ok(())
 }
 

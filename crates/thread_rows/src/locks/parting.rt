@@ -2,14 +2,14 @@
 
 ghost use Rattle.std.specs.Prelude.{◌≡◌, [], IfOk};
 
+use crate::calls::{adopted_board, fresh_board, looked_up_in_past};
 use crate::locks::closing::closed;
 use crate::locks::many::{at_once, storm};
-use crate::locks::record::tells;
+use crate::locks::record::{split, tells};
 use crate::locks::seen::{Seen, Why};
-use crate::locks::working::Work;
-use board_core::{Board, Config};
-use board_lock::{NewRoom, Past, Receipt, Record, Room, Seat, SharedBoard};
-use std::alloc::Global;
+use crate::locks::working::{Callers, RepeatedCall, Work};
+use board_core::{Board, Config, Op};
+use board_lock::{NewRoom, Past, Receipt, Room, Seat, SharedBoard};
 use std::marker::Brand;
 use std::sync::Wait;
 use std::thread::Threads;
@@ -28,7 +28,7 @@ pub fn go_on<R: AllocGlobal + Threads + Wait + Sync>(
     config: &Config,
     todo: Parts,
 ) -> Result<Seen, Why> {
-    let mut board = Board::new(rt.alloc(), config)?;
+    let mut board = fresh_board(rt.alloc(), config)?;
     let mut looks = 0;
     for _ in 0..todo.parts {
         let (left, found) = next_part(rt, board, todo)?;
@@ -67,7 +67,7 @@ fn in_room<K: Room + Send + Sync, R: AllocGlobal + Threads + Wait + Sync>(
     ensures { IfOk result (λ r. r.0.past ≡ []) }
 {
     let is_new = board.places() == 0;
-    match SharedBoard::<K>::adopt(rt.alloc(), room, board) {
+    match adopted_board::<K>(rt.alloc(), room, board) {
         Ok((shared, seats)) => part(rt, shared, seats, is_new, todo),
         Err((_, fault)) => Err(Why::Board(fault)),
     }
@@ -88,7 +88,8 @@ fn part<K: Room + Send + Sync, R: AllocGlobal + Threads + Wait + Sync>(
     let mut receipts = Vec::new(rt.alloc());
     work(rt, &shared, &mut seats, &mut receipts, is_new, todo)?;
     let (record, _) = closed(shared, seats, 0)?;
-    split(rt.alloc(), record, &receipts)
+    let (past, board) = split(rt.alloc(), record)?;
+    looked(&past, board, &receipts)
 }
 
 /// All harts work, which on a new board are started first.
@@ -100,29 +101,16 @@ fn work<K: Room + Send + Sync, R: AllocGlobal + Threads + Wait + Sync>(
     is_new: bool,
     todo: Parts,
 ) -> Result<(), Why> {
-    let work = Work::Read {
-        harts: todo.harts,
+    let work = Work::Keep(RepeatedCall {
+        callers: Callers::First(todo.harts),
         calls: todo.calls,
-    };
+        op: Op::ReadSip,
+    });
     if !is_new {
         return at_once(rt, shared, seats, receipts, work);
     }
     storm(rt, shared, seats, receipts, work)?;
     Ok(())
-}
-
-/// Splits the record of a part: the board after it, and how many receipts were looked up.
-fn split<K: Room>(
-    alloc: Global,
-    record: Record<K>,
-    receipts: &[Receipt<K>],
-) -> Result<(Board, usize), Why>
-    ensures { IfOk result (λ r. r.0.past ≡ []) }
-{
-    match record.split(alloc) {
-        Ok((past, board)) => looked(&past, board, receipts),
-        Err((_, fault)) => Err(Why::Board(fault)),
-    }
 }
 
 /// The board after a part whose receipts are looked up.
@@ -140,7 +128,7 @@ fn looked<K: Room>(
 /// Looks each receipt up in its part: how many there were.
 fn looks<K: Room>(past: &Past<K>, receipts: &[Receipt<K>]) -> Result<usize, Why> {
     for receipt in receipts {
-        let event = past.look(receipt);
+        let event = looked_up_in_past(past, receipt);
         let index = receipt.place().saturating_sub(past.opening().places());
         if !tells(receipt, event) || past.events().get(index as usize) != Some(event) {
             return Err(Why::Receipt);

@@ -1,8 +1,11 @@
 //! What a record must say, whatever the schedule was.
 
+ghost use Rattle.std.specs.Prelude.{◌≡◌, [], IfOk};
+
+use crate::calls::{fresh_board, looked_up, parted, step};
 use crate::locks::seen::Why;
 use board_core::{Actor, Board, BuildFault, Config, Event};
-use board_lock::{Receipt, Record, Room};
+use board_lock::{Past, Receipt, Record, Room};
 use std::alloc::{AllocError, Global};
 
 /// How many of the events are the actor's.
@@ -31,6 +34,16 @@ fn ordinals(alloc: Global, events: &[Event]) -> Result<Vec<u64>, AllocError> {
     Ok(ordinals)
 }
 
+/// The past that a record leaves, and its board.
+pub fn split<K: Room>(alloc: Global, record: Record<K>) -> Result<(Past<K>, Board), Why>
+    ensures { IfOk result (λ r. r.1.past ≡ []) }
+{
+    match parted(alloc, record) {
+        Ok((past, board)) => Ok((past, board)),
+        Err((_, fault)) => Err(Why::Board(fault)),
+    }
+}
+
 /// Whether an event is what the receipt says.
 pub fn tells<K: Room>(receipt: &Receipt<K>, event: &Event) -> bool {
     event.actor() == receipt.actor()
@@ -40,7 +53,7 @@ pub fn tells<K: Room>(receipt: &Receipt<K>, event: &Event) -> bool {
 
 /// Whether the receipt's event is what it says, and stands where it says.
 fn stands<K: Room>(record: &Record<K>, ordinals: &[u64], receipt: &Receipt<K>) -> bool {
-    let event = record.look(receipt);
+    let event = looked_up(record, receipt);
     let place = receipt.place() as usize;
     tells(receipt, event)
         && record.events().get(place) == Some(event)
@@ -50,7 +63,7 @@ fn stands<K: Room>(record: &Record<K>, ordinals: &[u64], receipt: &Receipt<K>) -
 /// Whether the board makes the same steps with the same replies.
 fn steps_again(board: &mut Board, events: &[Event]) -> bool {
     for event in events {
-        if board.step(event.actor(), event.op()) != Ok(event.reply()) {
+        if step(board, event.actor(), event.op()) != Ok(event.reply()) {
             return false;
         }
     }
@@ -59,7 +72,7 @@ fn steps_again(board: &mut Board, events: &[Event]) -> bool {
 
 /// Whether one thread that makes the same steps on a new board gets the same events.
 fn is_replayed(alloc: Global, config: &Config, events: &[Event]) -> Result<bool, BuildFault> {
-    let mut board = Board::new(alloc, config)?;
+    let mut board = fresh_board(alloc, config)?;
     Ok(steps_again(&mut board, events) && board.history() == events)
 }
 

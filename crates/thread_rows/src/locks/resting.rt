@@ -1,5 +1,6 @@
 //! Rests that end: after another event, and when the end is called.
 
+use crate::calls::rested;
 use crate::locks::many::at_once;
 use crate::locks::seen::{Noted, Why};
 use crate::locks::working::Work;
@@ -15,7 +16,7 @@ fn rest<K: Room, R: Wait>(
     seen: u64,
 ) -> Result<Rest, Why> {
     match seats.last_mut() {
-        Some(clock) => Ok(shared.rest(rt, clock, seen)),
+        Some(clock) => Ok(rested(rt, shared, clock, seen)),
         None => Err(Why::Seats),
     }
 }

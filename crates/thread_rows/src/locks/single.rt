@@ -1,5 +1,6 @@
 //! Row lock-receipts: what the receipts of one thread say, and the look of a receipt.
 
+use crate::calls::{called_and_viewed, looked_up};
 use crate::locks::record::events_of;
 use crate::locks::seen::{Noted, Seen, Told, Why};
 use board_core::{Actor, Op, Refusal};
@@ -15,7 +16,7 @@ fn accepted<K: Room, R: Wait>(
     receipts: &mut Vec<Receipt<K>>,
     op: Op,
 ) -> Result<HartView, Why> {
-    let (receipt, view) = shared.call_and_view(rt, seat, op)?;
+    let (receipt, view) = called_and_viewed(rt, shared, seat, op)?;
     match receipts.push(receipt) {
         Ok(()) => Ok(view),
         Err(_) => Err(Why::Memory(AllocError)),
@@ -28,7 +29,7 @@ fn refused<K: Room, R: Wait>(
     shared: &SharedBoard<K>,
     hart: &mut Seat<K>,
 ) -> Result<Refusal, Why> {
-    match shared.call_and_view(rt, hart, Op::Poll) {
+    match called_and_viewed(rt, shared, hart, Op::Poll) {
         Ok(_) => Err(Why::Accepted),
         Err(refusal) => Ok(refusal),
     }
@@ -65,7 +66,7 @@ pub fn seen<K: Room>(
     let [first, second, third] = receipts else {
         return Err(Why::Receipt);
     };
-    let event = record.look(third);
+    let event = looked_up(record, third);
     let told = [Told::of(first), Told::of(second), Told::of(third)];
     let of_hart = events_of(record.events(), Actor::Hart(0));
     let of_clock = events_of(record.events(), Actor::Clock);

@@ -2,7 +2,9 @@
 
 ghost use Rattle.std.specs.Prelude.{◌≡◌, []};
 
+use crate::calls::{adopted_board, called, looked_up, looked_up_in_past};
 use crate::locks::closing::closed;
+use crate::locks::record::split;
 use crate::locks::seen::{Found, Left, Seen, Told, Why};
 use board_core::{Board, Op};
 use board_lock::{NewRoom, Past, Receipt, Record, Room, Seat, SharedBoard};
@@ -15,10 +17,8 @@ pub fn seen<K: Room, R: AllocGlobal + Wait>(
     record: Record<K>,
     receipts: &[Receipt<K>],
 ) -> Result<Seen, Why> {
-    match record.split(rt.alloc()) {
-        Ok((past, board)) => of_parts(rt, &past, board, receipts),
-        Err((_, fault)) => Err(Why::Board(fault)),
-    }
+    let (past, board) = split(rt.alloc(), record)?;
+    of_parts(rt, &past, board, receipts)
 }
 
 /// The same of the two parts of a record.
@@ -41,7 +41,7 @@ fn found<K: Room>(past: &Past<K>, receipts: &[Receipt<K>]) -> Result<Found, Why>
     let Some(receipt) = receipts.last() else {
         return Err(Why::Receipt);
     };
-    Ok(Found::of(past.events(), past.look(receipt)))
+    Ok(Found::of(past.events(), looked_up_in_past(past, receipt)))
 }
 
 /// Puts the board behind a lock again, in a room of its own: how many seats it has there, and the answer to a call by the
@@ -62,14 +62,14 @@ fn in_room<K: Room, R: AllocGlobal + Wait>(
     requires room { (room.config ≡ K.opening.config) × (room.log ≡ K.log) }
     requires ledger { (room.ledger ≡ K.name) × (room.parts ≡ K.parts) × (K.all ≡ K.parts) }
 {
-    match SharedBoard::<K>::adopt(rt.alloc(), room, board) {
-        Ok((shared, seats)) => called(rt, shared, seats),
+    match adopted_board::<K>(rt.alloc(), room, board) {
+        Ok((shared, seats)) => called_again(rt, shared, seats),
         Err((_, fault)) => Err(Why::Board(fault)),
     }
 }
 
 /// A call by the first seat, whose receipt is looked up: how many seats there are, and the answer.
-fn called<K: Room, R: Wait>(
+fn called_again<K: Room, R: Wait>(
     rt: &R,
     shared: SharedBoard<K>,
     seats: Vec<Seat<K>>,
@@ -80,15 +80,15 @@ fn called<K: Room, R: Wait>(
     let many = seats.len();
     let receipt = call_first(rt, &shared, &mut seats)?;
     let (record, _) = closed(shared, seats, 0)?;
-    looked_up(&record, &receipt, many)
+    answer(&record, &receipt, many)
 }
 
-fn looked_up<K: Room>(
+fn answer<K: Room>(
     record: &Record<K>,
     receipt: &Receipt<K>,
     many: usize,
 ) -> Result<(usize, Told), Why> {
-    if record.look(receipt).reply() == receipt.reply() {
+    if looked_up(record, receipt).reply() == receipt.reply() {
         Ok((many, Told::of(receipt)))
     } else {
         Err(Why::Receipt)
@@ -101,7 +101,7 @@ fn call_first<K: Room, R: Wait>(
     seats: &mut [Seat<K>],
 ) -> Result<Receipt<K>, Why> {
     match seats.first_mut() {
-        Some(hart) => Ok(shared.call(rt, hart, Op::ReadSip)?),
+        Some(hart) => Ok(called(rt, shared, hart, Op::ReadSip)?),
         None => Err(Why::Seats),
     }
 }

@@ -1,29 +1,42 @@
 //! What a seat does on a thread of its own.
 
+use crate::calls::{called, called_and_viewed, called_only, rested, viewed};
 use board_core::{Actor, Op};
 use board_lock::{HartView, Receipt, Rest, Room, Seat, SharedBoard};
 use sbi_abi::Regs;
 use std::alloc::{AllocError, Global};
 use std::sync::Wait;
 
-const IPIS: u64 = 100;
-
 /// How often each hart fences all, and the clock ticks.
 const FENCES: u64 = 1;
+
+/// Which seats make a call.
+#[derive(Clone, Copy)]
+pub enum Callers {
+    All,
+    /// The first harts.
+    First(u64),
+}
+
+/// A call that seats make this often.
+#[derive(Clone, Copy)]
+pub struct RepeatedCall {
+    pub callers: Callers,
+    pub calls: u64,
+    pub op: Op,
+}
 
 /// What each seat does.
 #[derive(Clone, Copy)]
 pub enum Work {
-    /// It sends IPIs to all harts. The clock does nothing.
-    SendIpis,
     /// It fences all harts, or ticks, and serves, until every seat rests.
     Fence,
     /// It rests until every rest is over. The clock ticks twice and calls for the end.
     Rest,
-    /// Each of the first harts reads sip this often.
-    Read { harts: u64, calls: u64 },
-    /// Each of the first harts makes the call this often, and drops its receipts.
-    Repeat { harts: u64, calls: u64, op: Op },
+    /// It makes its calls, and keeps their receipts.
+    Keep(RepeatedCall),
+    /// It makes its calls, and drops their receipts.
+    Repeat(RepeatedCall),
 }
 
 /// A seat that is back, with the receipts of its calls.
@@ -41,6 +54,15 @@ pub fn call(eid: u64, fid: u64, a: [u64; 6]) -> Op {
 /// An IPI to all harts.
 pub fn ipi() -> Op {
     call(0x735049, 0, [0, u64::MAX, 0, 0, 0, 0])
+}
+
+/// A hundred IPIs to all harts by each seat; the clock's are refused.
+pub fn ipis() -> RepeatedCall {
+    RepeatedCall {
+        callers: Callers::All,
+        calls: 100,
+        op: ipi(),
+    }
 }
 
 /// Does a seat's work. If there is no memory for its receipts, it ends the rests of the others.
@@ -70,30 +92,11 @@ fn done<K: Room, R: Wait>(
     work: Work,
 ) -> Result<(), AllocError> {
     match work {
-        Work::SendIpis => return send(rt, shared, seat, receipts),
         Work::Fence => return fence(rt, shared, seat, receipts),
-        Work::Read { harts, calls } if is_asked(seat.actor(), harts) => {
-            return read(rt, shared, seat, receipts, calls);
-        }
-        Work::Read { .. } => {}
+        Work::Keep(todo) => return keep(rt, shared, seat, receipts, todo),
         Work::Rest if seat.actor() == Actor::Clock => end(rt, shared, seat),
         Work::Rest => rest(rt, shared, seat),
-        Work::Repeat { harts, calls, op } => repeat(rt, shared, seat, (harts, calls), op),
-    }
-    Ok(())
-}
-
-/// Sends its IPIs to all harts.
-fn send<K: Room, R: Wait>(
-    rt: &R,
-    shared: &SharedBoard<K>,
-    seat: &mut Seat<K>,
-    receipts: &mut Vec<Receipt<K>>,
-) -> Result<(), AllocError> {
-    for _ in 0..IPIS {
-        if let Ok(receipt) = shared.call(rt, seat, ipi()) {
-            receipts.push(receipt)?;
-        }
+        Work::Repeat(todo) => repeat(rt, shared, seat, todo),
     }
     Ok(())
 }
@@ -122,17 +125,17 @@ fn fence<K: Room, R: Wait>(
     receipts: &mut Vec<Receipt<K>>,
 ) -> Result<(), AllocError> {
     let mut left = FENCES;
-    let mut view = shared.view(rt, seat);
+    let mut view = viewed(rt, shared, seat);
     for _ in rt.forever() {
         let Some(op) = next(&view, left) else {
-            if shared.rest(rt, seat, view.events) == Rest::AllRest {
+            if rested(rt, shared, seat, view.events) == Rest::AllRest {
                 break;
             }
-            view = shared.view(rt, seat);
+            view = viewed(rt, shared, seat);
             continue;
         };
-        let Ok((receipt, after)) = shared.call_and_view(rt, seat, op) else {
-            view = shared.view(rt, seat);
+        let Ok((receipt, after)) = called_and_viewed(rt, shared, seat, op) else {
+            view = viewed(rt, shared, seat);
             continue;
         };
         if matches!(op, Op::Ecall(_) | Op::Tick(_)) {
@@ -147,8 +150,8 @@ fn fence<K: Room, R: Wait>(
 /// Rests until every rest is over.
 fn rest<K: Room, R: Wait>(rt: &R, shared: &SharedBoard<K>, seat: &mut Seat<K>) {
     for _ in rt.forever() {
-        let seen = shared.view(rt, seat).events;
-        if shared.rest(rt, seat, seen) == Rest::AllRest {
+        let seen = viewed(rt, shared, seat).events;
+        if rested(rt, shared, seat, seen) == Rest::AllRest {
             break;
         }
     }
@@ -157,46 +160,44 @@ fn rest<K: Room, R: Wait>(rt: &R, shared: &SharedBoard<K>, seat: &mut Seat<K>) {
 /// Makes two events, and calls for the end.
 fn end<K: Room, R: Wait>(rt: &R, shared: &SharedBoard<K>, clock: &mut Seat<K>) {
     for _ in 0..2 {
-        let _ = shared.call(rt, clock, Op::Tick(1));
+        let _ = called_only(rt, shared, clock, Op::Tick(1));
     }
     shared.end(rt);
 }
 
-/// Reads sip so often.
-fn read<K: Room, R: Wait>(
+/// How often the actor makes the call.
+fn calls_of(actor: Actor, todo: RepeatedCall) -> u64 {
+    match (todo.callers, actor) {
+        (Callers::All, _) => todo.calls,
+        (Callers::First(harts), Actor::Hart(h)) if h < harts => todo.calls,
+        (Callers::First(_), _) => 0,
+    }
+}
+
+/// Makes its calls, and keeps their receipts.
+fn keep<K: Room, R: Wait>(
     rt: &R,
     shared: &SharedBoard<K>,
     seat: &mut Seat<K>,
     receipts: &mut Vec<Receipt<K>>,
-    calls: u64,
+    todo: RepeatedCall,
 ) -> Result<(), AllocError> {
-    for _ in 0..calls {
-        if let Ok(receipt) = shared.call(rt, seat, Op::ReadSip) {
+    for _ in 0..calls_of(seat.actor(), todo) {
+        if let Ok(receipt) = called(rt, shared, seat, todo.op) {
             receipts.push(receipt)?;
         }
     }
     Ok(())
 }
 
-/// Whether the actor is one of the first harts.
-fn is_asked(actor: Actor, harts: u64) -> bool {
-    match actor {
-        Actor::Hart(h) => h < harts,
-        Actor::Clock => false,
-    }
-}
-
-/// Makes the call this often, if its hart is one of the first.
+/// Makes its calls, and drops their receipts.
 fn repeat<K: Room, R: Wait>(
     rt: &R,
     shared: &SharedBoard<K>,
     seat: &mut Seat<K>,
-    (harts, calls): (u64, u64),
-    op: Op,
+    todo: RepeatedCall,
 ) {
-    if is_asked(seat.actor(), harts) {
-        for _ in 0..calls {
-            let _ = shared.call(rt, seat, op);
-        }
+    for _ in 0..calls_of(seat.actor(), todo) {
+        let _ = called_only(rt, shared, seat, todo.op);
     }
 }

@@ -1,9 +1,12 @@
 //! Boards that are made, and whose histories are cut.
 
+ghost use Rattle.std.specs.Prelude.{◌≡◌, [], OnOk};
+
+use crate::calls::{fresh_board, script, step};
 use crate::memory::scripts::SCHEDULE;
 use crate::memory::telling::{begin, is_made, show};
 use board_core::{Board, BuildFault, Config, Totals, USUAL_ASID_LEN, USUAL_WIDTH};
-use guest_script::{Body, Doing, Lines, parse};
+use guest_script::{Body, Doing, Lines};
 use std::alloc::Global;
 
 /// A board of three harts and two pages.
@@ -29,14 +32,14 @@ pub fn make<R: AllocGlobal + Print>(rt: &R) {
 }
 
 fn made(alloc: Global) -> Result<Totals, BuildFault> {
-    let board = Board::new(alloc, &CONFIG)?;
+    let board = fresh_board(alloc, &CONFIG)?;
     Ok(board.totals())
 }
 
 /// A board after the steps of the schedule.
 pub fn busy(alloc: Global) -> Option<Board> {
-    let script = parse(alloc, SCHEDULE).ok()?;
-    let board = Board::new(alloc, &script.config).ok()?;
+    let script = script(alloc, SCHEDULE).ok()?;
+    let board = fresh_board(alloc, &script.config).ok()?;
     match &script.body {
         Body::Schedule(lines) => Some(after(board, lines)),
         _ => None,
@@ -47,7 +50,7 @@ fn after(board: Board, lines: &Lines) -> Board {
     let mut board = board;
     for line in lines.iter() {
         if let Doing::Step { actor, op } = line.doing() {
-            let _ = board.step(actor, op);
+            let _ = step(&mut board, actor, op);
         }
     }
     board
@@ -73,7 +76,9 @@ fn cut_off<R: AllocGlobal + Print>(rt: &R, call: &str, board: &mut Board) {
 }
 
 /// Cuts a history: how many events it had, and how many came before it.
-fn segment(alloc: Global, board: &mut Board) -> Result<(usize, u64), BuildFault> {
+pub fn segment(alloc: Global, board: &mut Board) -> Result<(usize, u64), BuildFault>
+    ensures { OnOk result (board.new.past ≡ []) }
+{
     let segment = board.cut(alloc)?;
     Ok((segment.events.len(), segment.opening.places()))
 }

@@ -2,10 +2,11 @@
 ghost use Rattle.std.specs.Prelude.{◌≡◌, [], IfSome};
 ghost use Rattle.board_core.specs.Opening.{opening_at};
 
-use crate::memory::boards::{CONFIG, busy};
+use crate::calls::{adopted_board, called, closed_board, looked_up, opened_board, parted};
+use crate::memory::boards::{CONFIG, busy, segment};
 use crate::memory::telling::{begin, is_made, show, tell};
 use board_core::{Board, BuildFault, Op};
-use board_lock::{NewRoom, Past, Receipt, Record, Room, Seat, SharedBoard};
+use board_lock::{NewRoom, NotAll, Past, Receipt, Record, Room, Seat, SharedBoard};
 use std::marker::Brand;
 use std::sync::Wait;
 
@@ -30,7 +31,7 @@ fn is_open<K: Room, R: AllocGlobal + Print + Wait>(rt: &R, room: NewRoom) -> boo
     requires ledger { (room.ledger ≡ K.name) × (room.parts ≡ K.parts) × (K.all ≡ K.parts) }
 {
     begin(rt, OPEN);
-    match SharedBoard::<K>::open(rt.alloc(), room) {
+    match opened_board::<K>(rt.alloc(), room) {
         Ok((shared, seats)) => {
             tell_seats(rt, OPEN, &seats);
             split(rt, shared, seats);
@@ -57,18 +58,22 @@ fn split<K: Room, R: AllocGlobal + Print + Wait>(
     requires { K.all ≡ K.parts }
 {
     let mut seats = seats;
-    let receipt = called(rt, &shared, &mut seats);
-    if let (Ok(record), Some(receipt)) = (shared.close(seats), receipt) {
+    let receipt = first_call(rt, &shared, &mut seats);
+    let open = NotAll {
+        board: shared,
+        seats,
+    };
+    if let (Ok(record), Some(receipt)) = (closed_board(open), receipt) {
         split_twice(rt, record, &receipt);
     }
 }
 
-fn called<K: Room, R: Wait>(
+fn first_call<K: Room, R: Wait>(
     rt: &R,
     shared: &SharedBoard<K>,
     seats: &mut [Seat<K>],
 ) -> Option<Receipt<K>> {
-    shared.call(rt, seats.first_mut()?, Op::Advance).ok()
+    called(rt, shared, seats.first_mut()?, Op::Advance).ok()
 }
 
 /// Splits a record, and again where memory was refused.
@@ -85,9 +90,9 @@ fn not_split<K: Room, R: AllocGlobal + Print>(
     receipt: &Receipt<K>,
 ) -> Option<Record<K>> {
     show(rt, SPLIT, record.board());
-    tell(rt, SPLIT, &record.look(receipt).reply());
+    tell(rt, SPLIT, &looked_up(&record, receipt).reply());
     begin(rt, SPLIT);
-    match record.split(rt.alloc()) {
+    match parted(rt.alloc(), record) {
         Ok((past, board)) => {
             tell_parts(rt, &past, &board);
             None
@@ -107,7 +112,7 @@ fn tell_parts<K: Room, R: Print>(rt: &R, past: &Past<K>, board: &Board) {
 /// Puts a board whose history was cut behind a lock, and again if an allocation failed.
 pub fn adopt<R: AllocGlobal + Print>(rt: &R) {
     if let Some(mut board) = busy(rt.alloc()) {
-        if board.cut(rt.alloc()).is_ok() {
+        if segment(rt.alloc(), &mut board).is_ok() {
             adopt_twice(rt, board);
         }
     }
@@ -142,7 +147,7 @@ fn not_adopted_in<K: Room, R: AllocGlobal + Print>(
     ensures { IfSome result (λ b. b.past ≡ []) }
 {
     begin(rt, ADOPT);
-    match SharedBoard::<K>::adopt(rt.alloc(), room, board) {
+    match adopted_board::<K>(rt.alloc(), room, board) {
         Ok((_, seats)) => {
             tell_seats(rt, ADOPT, &seats);
             None

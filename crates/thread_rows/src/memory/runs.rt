@@ -1,15 +1,16 @@
 //! A program that runs on threads.
 
+use crate::calls::{ran_program, script};
 use crate::memory::scripts::PROGRAM;
 use crate::memory::telling::{begin, is_made};
-use guest_script::{Body, Script, parse};
-use hart_threads::{End, Open, RunFault, run};
+use guest_script::Script;
+use hart_threads::{End, Open, RunFault};
 use std::sync::Wait;
 use std::thread::Threads;
 
 /// Runs the program, and again if memory or a thread was refused.
 pub fn run_program<R: AllocGlobal + Print + Threads + Wait + Sync>(rt: &R) {
-    if let Ok(script) = parse(rt.alloc(), PROGRAM) {
+    if let Ok(script) = script(rt.alloc(), PROGRAM) {
         run_twice(rt, &script);
     }
 }
@@ -28,11 +29,6 @@ fn end<R: AllocGlobal + Threads + Wait + Sync>(
     rt: &R,
     script: &Script,
 ) -> Result<(End, usize), RunFault> {
-    match &script.body {
-        Body::Empty | Body::Program { .. } => {
-            let ran = run(rt, script, &Open)?;
-            Ok((ran.end, ran.board.history().len()))
-        }
-        Body::Schedule(_) | Body::Trace(_) => Err(RunFault::BadConfig),
-    }
+    let ran = ran_program(rt, script, &Open)?;
+    Ok((ran.end, ran.board.history().len()))
 }

@@ -1,7 +1,8 @@
 //! Scripts, and the call that reads them.
 
+use crate::calls::script;
 use crate::memory::telling::{begin, is_made};
-use guest_script::{Body, ScriptFault, parse};
+use guest_script::{Body, ScriptFault};
 use std::alloc::Global;
 
 /// A program of three harts and the clock.
@@ -74,7 +75,7 @@ fn is_refused(answer: &Result<usize, (ScriptFault, u64)>) -> bool {
 
 /// Reads a script: how many lines it has, or blocks and ticks; or its fault and that one's number.
 fn size(alloc: Global, bytes: &[u8]) -> Result<usize, (ScriptFault, u64)> {
-    match parse(alloc, bytes) {
+    match script(alloc, bytes) {
         Ok(script) => Ok(size_of(&script.body)),
         Err(fault) => Err((fault, fault.number())),
     }

@@ -51,6 +51,11 @@ impl Asked {
         self.many.fetch_add(1, Ordering::SeqCst);
     }
 
+    /// How many questions there were.
+    fn questions(&self) -> usize {
+        self.many.load(Ordering::SeqCst)
+    }
+
     /// Whether the ordinal was asked.
     fn is_reached(&self, ordinal: usize) -> bool {
         self.next.load(Ordering::SeqCst) > ordinal
@@ -102,12 +107,7 @@ impl<'a, R: Clock> Holding<'a, R> {
     /// How many questions each actor asked.
     pub fn questions(&self) -> [usize; 4] {
         let [a, b, c, d] = &self.asked;
-        [
-            a.many.load(Ordering::SeqCst),
-            b.many.load(Ordering::SeqCst),
-            c.many.load(Ordering::SeqCst),
-            d.many.load(Ordering::SeqCst),
-        ]
+        [a.questions(), b.questions(), c.questions(), d.questions()]
     }
 
     /// Whether each actor asked for its ordinals in order.

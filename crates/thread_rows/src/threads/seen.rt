@@ -54,8 +54,6 @@ impl Questions {
 pub enum Why {
     #[error("{0}")]
     Script(#[from] ScriptFault),
-    #[error("no program")]
-    Kind,
     #[error("{0}")]
     Run(#[from] RunFault),
 }

@@ -1,7 +1,8 @@
 //! Devices over readers and writers that move a few bytes at a call, or fail.
 
-use crate::failing::{ANSWERS, Answer, Failing};
-use crate::failures::{LibraryTask, SCHEDULE};
+use crate::devices::failing::{ANSWERS, Answer, Failing};
+use crate::devices::failures::{LibraryTask, SCHEDULE};
+use crate::judging::{ScriptTask, judged};
 use anyhow::{Result, ensure};
 use monitor::{Failed, Sink};
 use sbiboard::{Device, Outcome, Source};
@@ -80,13 +81,18 @@ pub fn show_pieces<R: AllocGlobal + Print>(rt: &R) -> Result<()> {
         for expected in [0, 1, 62, usize::MAX] {
             let mut reader = Device::expecting(script.as_slice(), expected);
             let mut writer = Device::new(Vec::new(alloc));
-            let outcome = sbiboard::replay(alloc, &mut reader, &mut writer);
+            let outcome = judged(alloc, ScriptTask::Replay, &mut reader, &mut writer);
             let is_right = outcome == Outcome::Good && writer.into_inner().as_slice() == text;
             ensure!(is_right, "{length}, {expected}: {outcome}");
         }
     }
     let mut endless = Device::new(io::repeat(b'#'));
-    let outcome = sbiboard::replay(alloc, &mut endless, &mut Device::new(Vec::new(alloc)));
+    let outcome = judged(
+        alloc,
+        ScriptTask::Replay,
+        &mut endless,
+        &mut Device::new(Vec::new(alloc)),
+    );
     println!(rt; "endless: {outcome:?}")?;
     Ok(())
 }

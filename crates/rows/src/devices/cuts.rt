@@ -3,6 +3,7 @@
 ghost use Rattle.std.specs.Prelude.{◌≤◌, length, take};
 ghost use Rattle.guest_script.specs.Pieces.{AreWhole};
 
+use crate::judging::{ScriptTask, judged};
 use anyhow::{Result, ensure};
 use guest_script::{Reader, parse};
 use sbiboard::{Device, Outcome};
@@ -65,8 +66,8 @@ fn show_cut<R: AllocGlobal + Print>(rt: &R, name: &str, whole: &[u8]) -> Result<
 /// one whatever is done with the script.
 fn told(alloc: Global, bytes: &[u8]) -> Result<String> {
     let [replayed, checked] = [
-        ended_in_two(alloc, bytes, true)?,
-        ended_in_two(alloc, bytes, false)?,
+        ended_in_two(alloc, bytes, ScriptTask::Replay)?,
+        ended_in_two(alloc, bytes, ScriptTask::Check)?,
     ];
     match parse(alloc, bytes) {
         Ok(_) => Ok(format!(in alloc; "a script; replayed: {replayed}; checked: {checked}")?),
@@ -83,10 +84,10 @@ fn told(alloc: Global, bytes: &[u8]) -> Result<String> {
 }
 
 /// How a replay or a check of bytes ends, the same for every two pieces.
-fn ended_in_two(alloc: Global, bytes: &[u8], is_replay: bool) -> Result<Outcome> {
-    let (outcome, printed) = ended(alloc, b"", bytes, is_replay);
+fn ended_in_two(alloc: Global, bytes: &[u8], task: ScriptTask) -> Result<Outcome> {
+    let (outcome, printed) = ended(alloc, b"", bytes, task);
     for at in 1..bytes.len() {
-        let parted = ended(alloc, &bytes[..at], &bytes[at..], is_replay);
+        let parted = ended(alloc, &bytes[..at], &bytes[at..], task);
         ensure!(
             parted.0 == outcome && parted.1 == printed,
             "parted at {at}: {}",
@@ -97,14 +98,10 @@ fn ended_in_two(alloc: Global, bytes: &[u8], is_replay: bool) -> Result<Outcome>
 }
 
 /// How a replay or a check ends of bytes that come in two pieces, and what it prints.
-fn ended(alloc: Global, front: &[u8], rest: &[u8], is_replay: bool) -> (Outcome, Vec<u8>) {
+fn ended(alloc: Global, front: &[u8], rest: &[u8], task: ScriptTask) -> (Outcome, Vec<u8>) {
     let mut reader = Device::new(front.chain(rest));
     let mut writer = Device::new(Vec::new(alloc));
-    let outcome = if is_replay {
-        sbiboard::replay(alloc, &mut reader, &mut writer)
-    } else {
-        sbiboard::check(alloc, &mut reader, &mut writer)
-    };
+    let outcome = judged(alloc, task, &mut reader, &mut writer);
     (outcome, writer.into_inner())
 }
 

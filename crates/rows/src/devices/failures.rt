@@ -2,12 +2,12 @@
 
 ghost use Rattle.std.specs.Prelude.{◌^◌, ◌<◌};
 
-use crate::failing::{ANSWERS, Answer, Failing};
+use crate::devices::failing::{ANSWERS, Answer, Failing};
+use crate::judging::{ScriptTask, judged};
 use anyhow::{Result, ensure};
 use hart_threads::Open;
 use monitor::Sink;
 use sbiboard::{Device, Outcome, Source};
-use std::alloc::Global;
 use std::sync::Wait;
 use std::thread::Threads;
 
@@ -86,9 +86,30 @@ impl LibraryTask {
         requires writes { O.failures writer.old < 2 ^ 63 }
     {
         match self {
-            LibraryTask::Replay => sbiboard::replay(rt.alloc(), reader, writer),
-            LibraryTask::Check => sbiboard::check(rt.alloc(), reader, writer),
+            LibraryTask::Replay => judged(rt.alloc(), ScriptTask::Replay, reader, writer),
+            LibraryTask::Check => judged(rt.alloc(), ScriptTask::Check, reader, writer),
             LibraryTask::Run => sbiboard::run_script(rt, reader, writer, &Open),
+        }
+    }
+}
+
+/// Which calls of a task fail.
+#[derive(Clone, Copy, Debug)]
+pub enum Side {
+    /// Its reads.
+    Reads,
+    /// Its writes, with the flush at the end.
+    Writes,
+}
+
+impl Side {
+    /// How a task ends of which a call has this answer. A flush moves no bytes, so it ends well where it answers so. A read
+    /// of nothing is the end, and not tried.
+    fn wanted(self, answer: Answer, is_last: bool) -> Option<Outcome> {
+        match (self, answer) {
+            (Side::Reads, Answer::Zero) => None,
+            (Side::Writes, Answer::Zero) if is_last => Some(Outcome::Good),
+            _ => Some(Outcome::Io),
         }
     }
 }
@@ -104,21 +125,24 @@ enum Behind {
 
 const BEHIND: [Behind; 2] = [Behind::Nothing, Behind::Device];
 
-/// How a task ends, how many calls it made of what fails, and what it printed.
-type Ended = (Outcome, u64, Vec<u8>);
-
-/// The same of a task that reads three bytes at a call.
-fn run_from<R: AllocGlobal + Threads + Wait + Sync>(
-    rt: &R,
+/// A task of which one call, from 0, has another answer.
+#[derive(Clone, Copy)]
+struct Attempt {
     task: LibraryTask,
     behind: Behind,
     at: u64,
     answer: Answer,
-) -> Ended {
-    let alloc = rt.alloc();
-    let mut reader = Failing::new(alloc, task.script(), 3, at, answer);
+}
+
+/// How a task ends, how many calls it made of what fails, and what it printed.
+type Ended = (Outcome, u64, Vec<u8>);
+
+/// The same of a task that reads three bytes at a call.
+fn run_from<R: AllocGlobal + Threads + Wait + Sync>(rt: &R, attempt: Attempt) -> Ended {
+    let (alloc, task) = (rt.alloc(), attempt.task);
+    let mut reader = Failing::new(alloc, task.script(), 3, attempt.at, attempt.answer);
     let mut writer = Device::new(Vec::new(alloc));
-    match behind {
+    match attempt.behind {
         Behind::Nothing => {
             let outcome = task.run(rt, &mut reader, &mut writer);
             (outcome, reader.calls, writer.into_inner())
@@ -132,16 +156,11 @@ fn run_from<R: AllocGlobal + Threads + Wait + Sync>(
 }
 
 /// The same of a task that writes three bytes at a call.
-fn run_to<R: AllocGlobal + Threads + Wait + Sync>(
-    rt: &R,
-    task: LibraryTask,
-    behind: Behind,
-    at: u64,
-    answer: Answer,
-) -> Ended {
+fn run_to<R: AllocGlobal + Threads + Wait + Sync>(rt: &R, attempt: Attempt) -> Ended {
+    let task = attempt.task;
     let mut reader = Device::new(task.script());
-    let mut writer = Failing::new(rt.alloc(), b"", 3, at, answer);
-    match behind {
+    let mut writer = Failing::new(rt.alloc(), b"", 3, attempt.at, attempt.answer);
+    match attempt.behind {
         Behind::Nothing => {
             let outcome = task.run(rt, &mut reader, &mut writer);
             (outcome, writer.calls, writer.taken)
@@ -155,77 +174,59 @@ fn run_to<R: AllocGlobal + Threads + Wait + Sync>(
     }
 }
 
-/// How many reads a task makes, each of which failed in turn: nothing is written then, and no more is read. A read of
-/// nothing is the end.
-pub fn check_reads<R: AllocGlobal + Threads + Wait + Sync>(
-    rt: &R,
-    task: LibraryTask,
-) -> Result<u64> {
-    let mut reads = 0;
-    for behind in BEHIND {
-        let (outcome, calls, printed) = run_from(rt, task, behind, u64::MAX, Answer::Moves);
-        ensure!(outcome == Outcome::Good, "{behind:?}: {outcome}");
-        ensure!(printed.as_slice() == task.text(), "another text");
-        for at in 0..calls {
-            check_read(rt, task, behind, at)?;
-        }
-        reads = calls;
+/// The same of a task whose reads or writes are of three bytes.
+fn run_by<R: AllocGlobal + Threads + Wait + Sync>(rt: &R, side: Side, attempt: Attempt) -> Ended {
+    match side {
+        Side::Reads => run_from(rt, attempt),
+        Side::Writes => run_to(rt, attempt),
     }
-    Ok(reads)
 }
 
-fn check_read<R: AllocGlobal + Threads + Wait + Sync>(
+/// How many reads or writes a task makes, each of which failed or moved nothing in turn: no call is made after it, and if a
+/// read fails, nothing is written.
+pub fn check_calls<R: AllocGlobal + Threads + Wait + Sync>(
     rt: &R,
     task: LibraryTask,
-    behind: Behind,
-    at: u64,
-) -> Result<()> {
-    for answer in ANSWERS.into_iter().skip(1) {
-        let (outcome, calls, printed) = run_from(rt, task, behind, at, answer);
-        let is_right = outcome == Outcome::Io && calls == at.wrapping_add(1) && printed.is_empty();
-        ensure!(
-            is_right,
-            "read {at}, {answer:?}, {behind:?}: {outcome}, {calls} calls"
-        );
-    }
-    Ok(())
-}
-
-/// How many writes a task makes, with the flush at the end, each of which failed or took nothing in turn: no call is made
-/// after it. A flush moves no bytes, so it ends well where it answers so.
-pub fn check_writes<R: AllocGlobal + Threads + Wait + Sync>(
-    rt: &R,
-    task: LibraryTask,
+    side: Side,
 ) -> Result<u64> {
-    let mut writes = 0;
+    let mut count = 0;
     for behind in BEHIND {
-        let (outcome, last, printed) = run_to(rt, task, behind, u64::MAX, Answer::Moves);
-        ensure!(outcome == Outcome::Good, "{behind:?}: {outcome}");
-        ensure!(printed.as_slice() == task.text(), "another text");
+        let whole = Attempt {
+            task,
+            behind,
+            at: u64::MAX,
+            answer: Answer::Moves,
+        };
+        let (outcome, last, printed) = run_by(rt, side, whole);
+        let is_right = outcome == Outcome::Good && printed.as_slice() == task.text();
+        ensure!(is_right, "{side:?}, {behind:?}: {outcome}");
         for at in 0..last {
-            check_write(rt, task, behind, at, last)?;
+            check_call(rt, side, Attempt { at, ..whole }, last)?;
         }
-        writes = last;
+        count = last;
     }
-    Ok(writes)
+    Ok(count)
 }
 
-fn check_write<R: AllocGlobal + Threads + Wait + Sync>(
+/// One call has each other answer in turn.
+fn check_call<R: AllocGlobal + Threads + Wait + Sync>(
     rt: &R,
-    task: LibraryTask,
-    behind: Behind,
-    at: u64,
+    side: Side,
+    attempt: Attempt,
     last: u64,
 ) -> Result<()> {
+    let made = attempt.at.wrapping_add(1);
     for answer in ANSWERS {
-        let (outcome, calls, _) = run_to(rt, task, behind, at, answer);
-        let is_good = matches!(answer, Answer::Zero) && calls == last;
-        let wanted = if is_good { Outcome::Good } else { Outcome::Io };
-        let is_right = outcome == wanted && calls == at.wrapping_add(1);
-        ensure!(
-            is_right,
-            "write {at}, {answer:?}, {behind:?}: {outcome}, {calls} calls"
-        );
+        if let Some(wanted) = side.wanted(answer, made == last) {
+            let (outcome, calls, printed) = run_by(rt, side, Attempt { answer, ..attempt });
+            let is_silent = printed.is_empty() || matches!(side, Side::Writes);
+            let is_right = outcome == wanted && calls == made && is_silent;
+            ensure!(
+                is_right,
+                "{side:?} {made}, {answer:?}, {:?}: {outcome}, {calls} calls",
+                attempt.behind
+            );
+        }
     }
     Ok(())
 }

@@ -1,5 +1,5 @@
 use Rattle.std.proofs.Common.{length}
-use Rattle.device_rows.proofs.cuts.whole_lines.Given as goal
+use Rattle.rows.proofs.devices.cuts.whole_lines.Given as goal
 
 abbrev pub decreases-loop-front : goal.decreases-loop-front
 decreases-loop-front l = length l.front
