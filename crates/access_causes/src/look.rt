@@ -133,11 +133,7 @@ impl Look {
     /// Why the word that the access used is stale.
     fn word_cause(&self, look: &WordLook) -> Option<AccessCause> {
         let changed = look.since?;
-        Some(self.because(
-            Held::Word(look.word),
-            Origin::Filled(look.filled),
-            changed,
-        ))
+        Some(self.because(Held::Word(look.word), Origin::Filled(look.filled), changed))
     }
 
     /// Why an entry that the access may use gives it another result than the page tables, if there is one.

@@ -316,11 +316,7 @@ fn write_rights<W: fmt::Write>(f: &mut fmt::Formatter<W>, entry: &Entry) -> fmt:
 }
 
 /// The letter of a right, or a dash.
-fn write_right<W: fmt::Write>(
-    f: &mut fmt::Formatter<W>,
-    has: bool,
-    letter: &str,
-) -> fmt::Result {
+fn write_right<W: fmt::Write>(f: &mut fmt::Formatter<W>, has: bool, letter: &str) -> fmt::Result {
     write!(f, "{}", if has { letter } else { "-" })
 }
 
