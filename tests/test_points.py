@@ -4,7 +4,7 @@ import re
 
 from board_model import access_of
 
-from . import all_orders, judge, random_programs, replays
+from . import all_orders, expected_causes, judge, random_programs, replays
 from .expected_points import Case, grouped
 from .fixtures import NO_MEMORY, PROGRAM, TESTER, Test, allocating, must, piping, ran, read, shim, tester, told, told_of, write
 from .test_few_states import EDGES, are_all
@@ -128,10 +128,11 @@ def random_steps(seed):
 
 def stale_lines(text):
     """The lines that are stale, by the model, and why: a walk before the step gives another translation, or memory has another word."""
-    before, found = None, []
+    before, found, causes = None, [], expected_causes.of_file(text)
+    missed = {causes.lines[place] for place in causes.stale() if causes.is_missed(place)}
     for at, board, actor, op, _ in replays.steps(text):
         if board.is_stale:
-            found.append(f"# line {at}: stale: {why_stale(before, board, actor, op)}")
+            found.append(f"# line {at}: stale: {why_stale(before, board, actor, op)}{'; a fence call missed it' if at in missed else ''}")
         before = board.copy()
     return found
 
@@ -360,7 +361,7 @@ class Points(Test):
             must(f"{text}: told are {told_by[at]}, and stale {wanted}", told_by[at] == wanted)
             seen += wanted
         places = [int(line.split()[2].rstrip(":")) for line in seen]
-        reasons = {line.partition("stale: ")[2] for line in seen}
+        reasons = {line.partition("stale: ")[2].partition(";")[0] for line in seen}
         must(f"{len(seen)} are stale, for {reasons}", len(seen) > 100 and len(reasons) == 2 and max(places) > 50 and {it % 2 for it in places} == {0, 1})
 
     def test_bounds_of_boards_are_told(self):

@@ -2,6 +2,7 @@
 ghost use Rattle.std.specs.Prelude.{◌≡◌};
 ghost use Rattle.test_report.specs.Lines.{shown_as};
 
+use crate::causes::ToldCause;
 use crate::records::event_line;
 use crate::stuck::StuckHart;
 use board_core::Event;
@@ -60,6 +61,8 @@ pub enum Detail {
     Unwritten(Unwritten),
     /// The place of a step, from 0, and the steps around it, each with its place.
     Steps(usize, Vec<(usize, Event)>),
+    /// Why accesses of the record have a mark.
+    Causes(Vec<ToldCause>),
     /// The harts that can't go on.
     Stuck(Vec<StuckHart>),
     /// The lines of a trace that differ.
@@ -90,6 +93,7 @@ impl Detail {
                 writeln!(text, "{margin}place: {place}\n{margin}steps: |")?;
                 put_steps(alloc, margin, steps, text)
             }
+            Detail::Causes(causes) => put_causes(alloc, margin, causes, text),
             Detail::Stuck(harts) => {
                 writeln!(text, "{margin}stuck:")?;
                 for hart in harts {
@@ -123,6 +127,22 @@ fn put_steps(
         let line = event_line(alloc, event)?;
         let shown = str::from_utf8(&line).unwrap_or("\n");
         write!(text, "{margin}  {place} {shown}")?;
+    }
+    Ok(())
+}
+
+/// Puts why accesses have a mark.
+fn put_causes(
+    alloc: Global,
+    margin: &str,
+    causes: &[ToldCause],
+    text: &mut String,
+) -> Result<(), AllocError> {
+    writeln!(text, "{margin}cause: |")?;
+    let margin = format!(in alloc; "{margin}  ")?;
+    for cause in causes {
+        let lines = cause.behind(margin.as_str());
+        writeln!(text, "{lines}")?;
     }
     Ok(())
 }

@@ -2,6 +2,7 @@
 //! Test Anything Protocol, version 13, and as plain text for a terminal.
 #![tactic(auto)]
 
+mod causes;
 mod counts;
 mod details;
 mod missing;
@@ -17,10 +18,11 @@ mod summary;
 mod tap;
 mod verdict;
 
+pub use causes::ToldCause;
 pub use counts::{AllOrders, Counts};
 pub use details::{Detail, Difference, Unwritten};
 pub use missing::{Missing, lack_of};
-pub use notes::{Given, LoadGave, Note, Outcome, Stale};
+pub use notes::{Given, LoadGave, Note, Outcome, Stale, StaleAccess};
 pub use page::{Page, Style};
 pub use point::{Point, named};
 pub use records::{RecordParts, record, step_line};

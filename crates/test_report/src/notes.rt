@@ -1,4 +1,5 @@
 //! Notes behind a file's points, one a line.
+use crate::causes::ToldCause;
 use crate::counts::{AllOrders, or_more};
 use guest_programs::End;
 use std::fmt;
@@ -10,6 +11,37 @@ pub enum Stale {
     Translation,
     /// A word of the instruction cache that memory no longer has.
     Word,
+}
+
+/// A stale access of a line.
+#[derive(Debug, Drop)]
+pub struct StaleAccess {
+    /// The line.
+    pub line: u64,
+    /// What it used.
+    pub stale: Stale,
+    /// Why it is stale, where that is told.
+    pub cause: Option<ToldCause>,
+}
+
+/// `line 22: stale: memory has another word`, and the lines of its cause.
+impl fmt::Display for StaleAccess {
+    fn fmt<W: fmt::Write>(&self, f: &mut fmt::Formatter<W>) -> fmt::Result {
+        let line = self.line;
+        let why = match self.stale {
+            Stale::Translation => "a walk gives another translation",
+            Stale::Word => "memory has another word",
+        };
+        write!(f, "line {line}: stale: {why}")?;
+        let Some(cause) = &self.cause else {
+            return Ok(());
+        };
+        if cause.is_missed() {
+            write!(f, "; a fence call missed it")?;
+        }
+        let lines = cause.behind("  ");
+        write!(f, "\n{lines}")
+    }
 }
 
 /// What a load, a fetch or an AMO gave: a value, or the number of its fault's cause.
@@ -51,7 +83,7 @@ pub enum Note {
     /// The patterns of the condition of a line met no step.
     NeverMet(u64),
     /// The access of a line was stale.
-    Stale(u64, Stale),
+    Stale(StaleAccess),
     /// The step of a schedule's line was refused, by this number.
     Refused(u64, u64),
     /// No order entered the block of a line, at this address.
@@ -83,12 +115,7 @@ impl fmt::Display for Note {
                     "line {line}: never met: no step has this actor and operation"
                 )
             }
-            Note::Stale(line, Stale::Translation) => {
-                write!(f, "line {line}: stale: a walk gives another translation")
-            }
-            Note::Stale(line, Stale::Word) => {
-                write!(f, "line {line}: stale: memory has another word")
-            }
+            Note::Stale(access) => write!(f, "{access}"),
             Note::Refused(line, refusal) => write!(f, "line {line}: refused {refusal}"),
             Note::NotEntered(line, addr) => {
                 write!(f, "line {line}: no order entered the block at {addr:#x}")

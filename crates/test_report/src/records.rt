@@ -85,6 +85,8 @@ pub struct RecordParts<'a> {
     pub events: &'a [Event],
     /// How it ended, where that counts.
     pub end: Option<End>,
+    /// The lines of the events in the file; of a program the guests' places tell them.
+    pub lines: Option<&'a [u64]>,
 }
 
 impl<'a> RecordParts<'a> {
@@ -95,6 +97,7 @@ impl<'a> RecordParts<'a> {
             segments: &[],
             events: board.history(),
             end,
+            lines: None,
         }
     }
 }

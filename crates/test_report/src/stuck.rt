@@ -41,9 +41,9 @@ impl fmt::Display for StuckHart {
 
 /// How far the guest of a hart is: the address of its last entry, and how many operations it did since.
 #[derive(Clone, Copy, Debug)]
-struct Place {
-    addr: u64,
-    done: u64,
+pub(crate) struct Place {
+    pub(crate) addr: u64,
+    pub(crate) done: u64,
 }
 
 /// The harts of a stuck board that are not through.
@@ -64,7 +64,7 @@ pub fn stuck_harts(
 }
 
 /// How far the guest of a hart is, where it was entered.
-fn place_of(events: &[Event], h: u64) -> Option<Place> {
+pub(crate) fn place_of(events: &[Event], h: u64) -> Option<Place> {
     let mut found: Option<Place> = None;
     for event in events {
         if event.actor() != Actor::Hart(h) {

@@ -5,7 +5,20 @@ use crate::stale::Expected;
 use board_core::{Board, Config, Event, Refusal, Reply};
 use guest_script::{Doing, KeptLine};
 use std::alloc::{AllocError, Global};
-use test_report::{Note, RecordParts};
+use test_report::{RecordParts, Stale};
+
+/// What is odd about a line.
+#[derive(Clone, Copy, Debug)]
+pub(crate) enum Odd {
+    /// The step of this line was refused, by this number.
+    Refused(u64, u64),
+    /// The access of this line, the event in this place, was stale.
+    Stale {
+        line: u64,
+        place: usize,
+        stale: Stale,
+    },
+}
 
 /// A board that does a schedule or a trace, with the events before its cuts.
 #[derive(Drop)]
@@ -13,8 +26,10 @@ pub(crate) struct Course {
     board: Board,
     /// The events before each cut, since the one before.
     segments: Vec<Vec<Event>>,
+    /// The line of each event.
+    lines: Vec<u64>,
     /// Stale accesses, and refused steps.
-    pub(crate) noted: Vec<Note>,
+    pub(crate) odd: Vec<Odd>,
 }
 
 impl Course {
@@ -23,7 +38,8 @@ impl Course {
         Course {
             board,
             segments: Vec::new(alloc),
-            noted: Vec::new(alloc),
+            lines: Vec::new(alloc),
+            odd: Vec::new(alloc),
         }
     }
 
@@ -47,7 +63,12 @@ impl Course {
             && let Some(event) = self.board.history().last()
             && let Some(stale) = expected.stale(&self.board, event)
         {
-            self.noted.push(Note::Stale(line.number(), stale))?;
+            let place = self.lines.len();
+            let line = line.number();
+            self.odd.push(Odd::Stale { line, place, stale })?;
+        }
+        if answer.is_ok() {
+            self.lines.push(line.number())?;
         }
         Ok(answer)
     }
@@ -76,6 +97,7 @@ impl Course {
             segments: &self.segments,
             events,
             end: None,
+            lines: Some(&self.lines[..]),
         }
     }
 }

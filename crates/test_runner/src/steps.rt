@@ -1,5 +1,5 @@
 //! Replays schedules, and compares traces.
-use crate::course::Course;
+use crate::course::{Course, Odd};
 use crate::marked::{failing_place, is_met_by, judged, marks_asked};
 use access_marks::Marks;
 use conditions::{Condition, Rule};
@@ -10,9 +10,13 @@ use std::alloc::AllocError;
 use std::rt::Files;
 use std::str;
 use test_report::{
-    Detail, Difference, FileReport, Note, Point, RecordParts, Verdict, named, step_line,
+    Detail, Difference, FileReport, Note, Point, RecordParts, StaleAccess, ToldCause, Verdict,
+    named, step_line,
 };
-use test_terms::{Stop, Trial, keep};
+use test_terms::{Stop, Trial, keep, put_causes, told_causes};
+
+/// Of so many stale accesses of a file the causes are told.
+const MOST_CAUSES: usize = 100;
 
 /// Tests a schedule or a trace: its lines, and its record by each condition.
 pub(crate) fn test_steps<R: AllocGlobal + Files>(trial: &Trial<'_, R>) -> Result<FileReport, Stop> {
@@ -42,14 +46,14 @@ fn replay<R: AllocGlobal>(
     for line in lines.iter() {
         if let Err(refusal) = course.answer(trial.rt.alloc(), &line)? {
             course
-                .noted
-                .push(Note::Refused(line.number(), refusal.number()))?;
+                .odd
+                .push(Odd::Refused(line.number(), refusal.number()))?;
         }
     }
     if trial.case.conditions.is_empty() {
         file.push(point_of_lines(trial, lines, Verdict::Holds)?)?;
     }
-    note_lines(course, file)
+    note_lines(trial, &*course, file)
 }
 
 /// Compares each line of a trace with the board's own answer, goes on with that, and reports all lines that differ.
@@ -81,15 +85,55 @@ fn compare<R: AllocGlobal>(
         point.details.push(Detail::Lines(differences))?;
     }
     file.push(point)?;
-    note_lines(course, file)
+    note_lines(trial, &*course, file)
 }
 
 /// Notes what is odd about lines.
-fn note_lines(course: &mut Course, file: &mut FileReport) -> Result<(), AllocError> {
-    for note in course.noted.drain(..) {
+fn note_lines<R: AllocGlobal>(
+    trial: &Trial<'_, R>,
+    course: &Course,
+    file: &mut FileReport,
+) -> Result<(), AllocError> {
+    let mut causes = stale_causes(trial, course)?;
+    causes.reverse();
+    for odd in course.odd.iter() {
+        let note = match *odd {
+            Odd::Refused(line, refusal) => Note::Refused(line, refusal),
+            Odd::Stale { line, place, stale } => {
+                let cause = take_cause(&mut causes, place);
+                Note::Stale(StaleAccess { line, stale, cause })
+            }
+        };
         file.note(note)?;
     }
     Ok(())
+}
+
+/// Takes the last of these causes, if it is of the access in this place.
+fn take_cause(causes: &mut Vec<ToldCause>, place: usize) -> Option<ToldCause> {
+    let is_next = causes.last().is_some_and(|cause| cause.place() == place);
+    if is_next { causes.pop() } else { None }
+}
+
+/// Why accesses of the record are stale: the first ones.
+fn stale_causes<R: AllocGlobal>(
+    trial: &Trial<'_, R>,
+    course: &Course,
+) -> Result<Vec<ToldCause>, AllocError> {
+    let alloc = trial.rt.alloc();
+    let mut places = Vec::new(alloc);
+    for odd in course.odd.iter() {
+        if let Odd::Stale { place, .. } = odd
+            && places.len() < MOST_CAUSES
+        {
+            places.push(*place)?;
+        }
+    }
+    if places.is_empty() {
+        return Ok(Vec::new(alloc));
+    }
+    let events = course.events(alloc)?;
+    told_causes(trial, course.record(&events), &places)
 }
 
 /// The point of a schedule's or a trace's lines.
@@ -127,6 +171,9 @@ fn judge<R: AllocGlobal + Files>(
     } else if is_failing {
         let place = failing_place(rule, record.events, marks);
         keep(trial, "failed", record, place, &mut point.details)?;
+        if let Some(marks) = marks {
+            put_causes(trial, rule, record, marks, &mut point.details)?;
+        }
     }
     file.push(point)?;
     if !is_misfit && !is_met_by(rule, record.events, marks) {

@@ -2,6 +2,7 @@
 //! early, and the records that are kept.
 #![tactic(auto)]
 
+mod causes;
 mod files;
 mod kept;
 mod limit;
@@ -10,6 +11,7 @@ mod options;
 mod stop;
 mod trial;
 
+pub use causes::{put_causes, told_causes};
 pub use files::is_one_of;
 pub use kept::keep;
 pub use limit::Limit;

@@ -1,0 +1,79 @@
+//! Why an access is stale or unsteady, as data. Places count a record's events from 0.
+use board_core::{Entry, FetchWord, HartSet};
+
+/// Why an access is stale or unsteady.
+#[derive(Clone, Copy, Debug)]
+pub struct AccessCause {
+    /// The place of the access.
+    pub place: usize,
+    /// Its hart.
+    pub hart: u64,
+    /// Its virtual address.
+    pub address: u64,
+    /// What it used, or may use.
+    pub held: Held,
+    /// Since when the hart holds that, or may hold it.
+    pub origin: Origin,
+    /// The place of the event since which the page tables, or the memory, don't give it.
+    pub changed: usize,
+    /// The fence that would have ended it.
+    pub fencing: Fencing,
+    /// Whether a fence call that covers the access succeeded, and the page tables haven't given what its entry gives since the call was
+    /// made (SBI 8).
+    pub is_missed: bool,
+}
+
+/// What an access used, or may use, though the page tables or the memory give another.
+#[derive(Clone, Copy, Debug)]
+pub enum Held {
+    /// A translation.
+    Entry(Entry),
+    /// A fetched word.
+    Word(FetchWord),
+}
+
+/// Since when a hart holds something, or may hold it.
+#[derive(Clone, Copy, Debug)]
+pub enum Origin {
+    /// An access filled it at this place.
+    Filled(usize),
+    /// It may hold a translation that the page tables gave from one place to another (Privileged 4.3.2).
+    Given {
+        /// The event since which they gave it.
+        from: usize,
+        /// The event since which they don't.
+        until: usize,
+    },
+    /// It may hold a translation that the page tables still give by a former satp (Privileged 4.2.1).
+    BySatp {
+        /// The former satp.
+        satp: u64,
+        /// The event since which the hart had it.
+        from: usize,
+        /// The event that wrote the next one.
+        until: usize,
+    },
+    /// It may hold a word that the memory had up to this place (Zifencei).
+    Had(usize),
+}
+
+/// The fence that would have ended what a hart holds.
+#[derive(Clone, Copy, Debug)]
+pub enum Fencing {
+    /// A call asked for one between the change and the access. This is the first that covers the address.
+    Asked {
+        /// The place of the call.
+        place: usize,
+        /// The harts that it asked.
+        harts: HartSet,
+        /// Whether it still waited at the hart of the access.
+        waits: bool,
+    },
+    /// No call asked for one between the change and the access.
+    Absent {
+        /// The last that was asked of the hart, or made there, before the change.
+        before: Option<usize>,
+        /// The first one after the access.
+        next: Option<usize>,
+    },
+}
