@@ -2,4 +2,5 @@ pub mod Sets
 pub mod Effects
 pub mod Watched
 pub mod Tracked
-pub mod Inside
+pub mod Kept
+pub mod Deciding
