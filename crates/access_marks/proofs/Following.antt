@@ -41,13 +41,6 @@ of-own o past addresses watches tracks = record {
   each = tracks.each;
 }
 
--- each is of a hart that is there
-pub all-there : (harts : ℕ) (watches : List WatchedAddress) → All (λ (at : HartAddress). at.hart < harts) (addresses_of watches) → All (λ (w : WatchedAddress). w.at.hart < harts) watches
-all-there harts [] all = All-nil (λ (w : WatchedAddress). w.at.hart < harts)
-all-there harts (w ∷ watches) all =
-    let There : HartAddress → Type 0 = λ at. at.hart < harts in
-    All-cons (λ (w : WatchedAddress). w.at.hart < harts) w watches (All-head There w.at (addresses_of watches) all) (all-there harts watches (All-tail There w.at (addresses_of watches) all))
-
 -- ---- steps
 
 last : (xs : List Event) (x d : Event) → get_or (xs ++ x ∷ []) (length xs) d ≡ x

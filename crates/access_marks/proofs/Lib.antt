@@ -5,7 +5,6 @@ pub mod Accessing
 pub mod Following
 pub mod Quieting
 pub mod MarkedSteps
-pub mod Leaves
 pub mod CallSteps
 pub mod MissedAccesses
 pub mod UseWatching

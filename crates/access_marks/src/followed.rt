@@ -14,7 +14,6 @@ ghost use Rattle.any_tlb.specs.Steady.{IsSteady, IsSteadyFetch, IsSteadyReach};
 ghost use Rattle.tlb_watch.specs.declared.hart_address.HartAddress.{HartAddress as Place};
 ghost use Rattle.tlb_watch.specs.Effects.{effect_on};
 ghost use Rattle.tlb_watch.specs.Tracked.{IsTracking};
-ghost use Rattle.tlb_watch.specs.Watched.{WatchedAddress};
 ghost use Rattle.access_marks.specs.Inside.Accessed.{IsPresent, IsWatched};
 ghost use Rattle.access_marks.specs.Inside.Changes.{SaysWritten};
 ghost use Rattle.access_marks.specs.Inside.Following.{IsNext};
@@ -332,7 +331,6 @@ fn track(
     op: Op,
     effect: CacheEffect,
 ) -> Result<Tracker, AllocError>
-    requires { All (λ (w : WatchedAddress). w.at.hart < board.now.opening.config.harts) tracker }
     ensures { IfOk result (λ after. (event : Step) (past : List Step) (addresses : List Place)
         → board.now.past ≡ event ∷ past
         → event.op ≡ op

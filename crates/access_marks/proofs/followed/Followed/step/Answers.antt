@@ -8,7 +8,6 @@ use Rattle.any_tlb.specs.Effects.{effect_at}
 use Rattle.tlb_watch.specs.declared.hart_address.HartAddress.{HartAddress}
 use Rattle.tlb_watch.specs.Effects.{effect_on}
 use Rattle.tlb_watch.specs.Tracked.{IsTracking, addresses_of}
-use Rattle.tlb_watch.specs.Watched.{WatchedAddress}
 use Rattle.access_marks.specs.Inside.Accessed.{IsPresent}
 use Rattle.access_marks.specs.Inside.Changes.{SaysWritten}
 use Rattle.access_marks.specs.Inside.Following.{Following, IsNext}
@@ -16,18 +15,11 @@ use Rattle.access_marks.specs.declared.use_watch.UseWatch.{UseWatch}
 use Rattle.access_marks.specs.Inside.Calls.{step_of}
 use Rattle.access_marks.specs.Inside.Missing.{IsKept, call_step}
 use Rattle.access_marks.specs.Inside.Words.{AreNoted}
-use Rattle.access_marks.proofs.Following.{all-there, of-own}
+use Rattle.access_marks.proofs.Following.{of-own}
 use Rattle.access_marks.proofs.followed.Followed.step.Goals as goal
 
 pub effect_of-effect-requires : goal.effect_of-effect-requires
 effect_of-effect-requires c = subst (λ (f : Following). IsPresent f.course.opening.config.harts c.args.event.now.actor) (sym c.self.view_is) c.requires
-
-pub track-requires : goal.track-requires
-track-requires c =
-    let b = c.self.inside.board in
-    let grew = c.takes.ensures.after c.if-not-takes.false in
-    subst (λ (b : Course). All (λ (w : WatchedAddress). w.at.hart < b.opening.config.harts) c.self.inside.tracker) (sym grew)
-    (all-there b.opening.config.harts c.self.inside.tracker c.self.invariant.0.present)
 
 pub happened-requires : goal.happened-requires
 happened-requires c =
