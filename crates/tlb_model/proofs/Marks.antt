@@ -1,5 +1,5 @@
 -- Words of marks, a bit for each place: the first and the last that is set, and those that a tag leaves.
-use Rattle.std.proofs.Common.{◌≡◌, ◌≢◌, ◌⊎◌, inl, inr, ℕ, zero, suc, ◌+◌, ◌-◌, ◌*◌, ◌/◌, ◌%◌, ◌^◌, ◌<◌, ◌≤◌, max, min, Bool, true, false, cond, List, length, get_or, map, replicate, ltb, eqb, refl, sym, ap, ◌∙◌, Some, arith, bit_and, bit_or, w8}
+use Rattle.std.proofs.Common.{◌≡◌, ◌≢◌, inl, inr, ℕ, zero, suc, ◌+◌, ◌-◌, ◌*◌, ◌/◌, ◌%◌, ◌^◌, ◌<◌, ◌≤◌, Bool, true, false, cond, List, length, get_or, map, replicate, ltb, eqb, refl, sym, ap, ◌∙◌, Some, arith, bit_and, bit_or, w8}
 use Rattle.std.specs.Prelude.{slice_get}
 use Rattle.std.specs.Int.{bit_at, w32}
 use Rattle.std.specs.Int.Count.{count_leading_zeros, count_trailing_zeros}
@@ -10,7 +10,6 @@ use Rattle.std.proofs.lemmas.List.{get_or-map, length-map}
 use Rattle.std.proofs.lemmas.Nat.{and_le_l, div-add-mod', div-mul-add, leading_top, or_lt, or_shifted, pow_pos, shr-shr}
 use Rattle.std.proofs.lemmas.Nat.Bits.{bit_at-lt, bit_at-trailing_zeros, bit_at-zero, bit_at_above, bit_at_and, bit_at_cat_high, bit_at_cat_low, bit_at_clear_other, bit_at_clear_same, bit_at_or}
 use Rattle.std.proofs.lemmas.Simd.{bit_mask_l, bitmask_splat, mask_l-lt}
-use Rattle.tlb_model.specs.declared.tag.TheConstants.{ANY}
 use Rattle.tlb_model.specs.Inside.Tags.{Suits}
 use Rattle.tlb_model.proofs.Places.{below_length}
 

@@ -1,5 +1,5 @@
 -- What sixteen places keep: after a fill, and as their live fills are counted.
-use Rattle.std.proofs.Common.{◌≡◌, ◌≢◌, add-one, ℕ, zero, suc, ◌+◌, ◌%◌, ◌<◌, ◌≤◌, min, Bool, true, false, ◌==◌, List, [], ◌∷◌, ◌++◌, length, take, drop, get_or, set, ltb, refl, sym, ap, ◌∙◌, Option, Some, None, arith, append-nil, append_assoc}
+use Rattle.std.proofs.Common.{◌≡◌, ◌≢◌, add-one, ℕ, zero, suc, ◌+◌, ◌%◌, ◌<◌, ◌≤◌, min, Bool, true, false, ◌==◌, List, [], ◌∷◌, ◌++◌, length, drop, get_or, set, ltb, refl, sym, ap, ◌∙◌, Option, Some, None, arith, append-nil, append_assoc}
 use Rattle.std.specs.Prelude.{filter, reverse, slice_get}
 use Rattle.std.specs.Int.{bit_at}
 use Rattle.std.specs.List.{refill}

@@ -116,7 +116,13 @@ impl Cached for Entry {
 
     fn tag(&self) -> u8 {
         match self.level {
-            Level::Kilo => { if self.page % 4096 == 0 { page_tag(self.page) } else { ANY } }
+            Level::Kilo => {
+                if self.page % 4096 == 0 {
+                    page_tag(self.page)
+                } else {
+                    ANY
+                }
+            }
             Level::Mega | Level::Giga | Level::Tera => ANY,
         }
     }

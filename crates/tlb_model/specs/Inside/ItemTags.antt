@@ -1,5 +1,5 @@
 -- The tags of entries and of fetched words.
-use Rattle.std.specs.Prelude.{◌≡◌, ℕ, ◌-◌, ◌/◌, ◌%◌, nat_le, ◌==◌, if◌then◌else◌, Option, Some, None}
+use Rattle.std.specs.Prelude.{ℕ, ◌-◌, ◌/◌, ◌%◌, nat_le, ◌==◌, if◌then◌else◌, Option, Some, None}
 use Rattle.sv39.specs.declared.page.Level.{Level}
 use Rattle.sv39.specs.declared.page.Level.TheVariants.{Kilo, Mega, Giga, Tera}
 use Rattle.tlb_model.specs.declared.entry.Address.{Address}

@@ -54,14 +54,16 @@ invariant_of-self g c =
           let written : refill (length places) places (set w.deref_mut.result.now (n % 16) item) ≡ set places (n % 16) item =
           refill-same places (set w.deref_mut.result.now (n % 16) item) (length-set w.deref_mut.result.now (n % 16) item ∙ ap length value)
           ∙ ap (λ xs. set xs (n % 16) item) value in
-          rw (w.self-inside-is, written)
-          (omega (arith, full, length-set places (n % 16) item, c.self.invariant.0),
-          tagged-filled tag places (set places (n % 16) item) tags (n % 16) c.tag.result item c.self.invariant.1 (omega arith) c.tag.ensures
-          (get-set_here places (n % 16) item (omega (arith, full))) (λ j other. get-set_other places (n % 16) item j other))
+          rw (w.self-inside-is, written) (
+            omega (arith, full, length-set places (n % 16) item, c.self.invariant.0),
+            tagged-filled tag places (set places (n % 16) item) tags (n % 16) c.tag.result item c.self.invariant.1 (omega arith) c.tag.ensures
+                (get-set_here places (n % 16) item (omega (arith, full))) (λ j other. get-set_other places (n % 16) item j other),
+          )
       | else-is_full w ↦
           let last : n % 16 ≡ length places = omega (arith, eq_fails (length places) 16 (sym answer ∙ w.if-is_full.false), c.self.invariant.0) in
-          rw (w.self-inside-is, w.push.ensures.items)
-          (omega (arith, length-append places (item ∷ []), last, c.self.invariant.0),
-          tagged-filled tag places (places ++ item ∷ []) tags (n % 16) c.tag.result item c.self.invariant.1 (omega arith) c.tag.ensures
-          (ap (slice_get (places ++ item ∷ [])) last ∙ get-append_here places item) (λ j other. get-append_other places item j (λ e. other (e ∙ sym last))))
+          rw (w.self-inside-is, w.push.ensures.items) (
+            omega (arith, length-append places (item ∷ []), last, c.self.invariant.0),
+            tagged-filled tag places (places ++ item ∷ []) tags (n % 16) c.tag.result item c.self.invariant.1 (omega arith) c.tag.ensures
+                (ap (slice_get (places ++ item ∷ [])) last ∙ get-append_here places item) (λ j other. get-append_other places item j (λ e. other (e ∙ sym last))),
+          )
     ]
