@@ -3,6 +3,7 @@ pub mod BoardLine
 pub mod Drafted
 pub mod FaultPlaces
 pub mod FaultsFound
+pub mod HexDigits
 pub mod LineWords
 pub mod LinesFrom
 pub mod LinesOf

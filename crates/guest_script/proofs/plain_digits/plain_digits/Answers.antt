@@ -1,6 +1,6 @@
 use Rattle.std.proofs.Common.{◌∙◌, sym, arith}
 use Rattle.guest_script.proofs.PlainParts.{digit_small, digits_begin, digits_more, rest_of}
-use Rattle.guest_script.proofs.plain.plain_digits.Goals as goal
+use Rattle.guest_script.proofs.plain_digits.plain_digits.Goals as goal
 
 pub returns-in-None-2-clause-number : goal.returns-in-None-2-clause-number
 returns-in-None-2-clause-number c =

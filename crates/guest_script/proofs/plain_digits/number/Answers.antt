@@ -1,0 +1,5 @@
+use Rattle.guest_script.proofs.HexDigits.{number_is}
+use Rattle.guest_script.proofs.plain_digits.number.Goals as goal
+
+pub returns : goal.returns
+returns c = number_is c.args.nibbles c.fits-nibbles.0 c.requires
