@@ -43,7 +43,7 @@ def program_of(crate):
 
 
 # The parts of programs of rows whose first line is their name, and whose word shows them alone.
-PARTS = ("locks", "memory", "threads")
+PARTS = ("devices", "locks", "memory", "threads")
 
 
 def rows_of(crate, part):

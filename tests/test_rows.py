@@ -63,11 +63,17 @@ LACKS, SPREAD = re.compile("no ?memory|out ?of ?memory|memory allocation failed|
 class WorkedRows(Test):
     programs = (program_of("rows"),)
 
+    def words_and_lines(self):
+        """The words that name the files of rows, and what the program must print with them."""
+        words = read(os.path.join(ROOT, "crates/rows/args")).split()
+        lines = read(os.path.join(ROOT, "crates/rows/stdout")).splitlines()
+        must(f"its words are {words}", words[-1] == "devices" and lines.count("devices") == 1)
+        return words[:-1], lines[: lines.index("devices")]
+
     def test_rows__allocations_are_small(self):
         """The worked rows print what they must, and ask for much memory at once for the largest histories alone."""
         made, data = shim(self.room), os.path.join(ROOT, "crates/rows/data")
-        words = read(os.path.join(ROOT, "crates/rows/args")).split()
-        wanted = read(os.path.join(ROOT, "crates/rows/stdout")).splitlines()
+        words, wanted = self.words_and_lines()
         found, sizes = allocating(made, self.room, words, program=program_of("rows"), cwd=data)
         lines = found.stdout.decode().splitlines()
         must(f"with all memory: status {found.returncode}, {len(lines)} lines", not found.returncode and lines == wanted)
@@ -78,8 +84,7 @@ class WorkedRows(Test):
         """Allocations of the worked rows refused, one of many: the row that the refusal reaches says that there was no memory, and
         nothing else, and the others show what they must; or the program ends there and says so."""
         made, data = shim(self.room), os.path.join(ROOT, "crates/rows/data")
-        words = read(os.path.join(ROOT, "crates/rows/args")).split()
-        wanted = read(os.path.join(ROOT, "crates/rows/stdout")).splitlines()
+        words, wanted = self.words_and_lines()
 
         def run(refused):
             own = os.path.join(self.room, str(refused))
