@@ -56,11 +56,11 @@ def started(harts, lines, pages=1):
         yield f"{hart} advance"
 
 
-def mapped(harts, lines, mode=8, superpage=False):
+def mapped(harts, lines, mode=8, superpage=False, more=0):
     """All harts are started, and run with the same 32 pages: those of even ids in address space 5, the others in 6.
 
-    With a superpage the 2 MiB behind them are the RAM."""
-    first, *others = started(harts, lines, pages=16 if mode == 8 else 17)
+    With a superpage the 2 MiB behind them are the RAM. More pages have pages of the RAM of their own."""
+    first, *others = started(harts, lines, pages=(16 if mode == 8 else 17) + more)
     yield first if mode == 8 else f"{first} 16 48"
     yield from others
     root = 0x80001
@@ -73,6 +73,8 @@ def mapped(harts, lines, mode=8, superpage=False):
         yield f"0 store 0x80002008 {0x80000 << 10 | 0xCF:#x}"
     for page in range(32):
         yield f"0 store {0x80003000 + 8 * page:#x} {(0x80004 + page % 12) << 10 | 0xCF:#x}"
+    for page in range(more):
+        yield f"0 store {0x80003000 + 8 * (32 + page):#x} {(0x80010 + page) << 10 | 0xCF:#x}"
     for hart in range(harts):
         yield f"{hart} satp {mode << 60 | (5 + hart % 2) << 44 | root:#x}"
 
@@ -147,17 +149,12 @@ def accesses(harts, lines):
 def many_fills(harts, lines):
     """Two harts load, store and fetch at random in 96 pages, fence, and write satp: what comes next can't be foreseen."""
     rng = random.Random(96)
-    first, *others = mapped(2, lines)
-    yield first.replace(" 16 ", " 112 ", 1)
-    yield from others
-    for page in range(32, 96):
-        yield f"0 store {0x80003000 + 8 * page:#x} {(0x80010 + page) << 10 | 0xCF:#x}"
+    yield from mapped(2, lines, more=64)
     while True:
         hart, va = rng.randrange(2), rng.randrange(96) << 12 | 8 * rng.randrange(512)
         op = rng.choice(("load", "load", "load", "store", "fetch", "sfence", "satp"))
         if op == "store":
-            # (not to a page that has tables)
-            yield f"{hart} store {(32 + rng.randrange(64)) << 12 | va % 4096:#x} {rng.getrandbits(64):#x}"
+            yield f"{hart} store {va:#x} {rng.getrandbits(64):#x}"
         elif op == "sfence":
             yield f"{hart} sfence {rng.choice((f'{va:#x}', '-'))} {rng.choice(('5', '6', '-'))}"
         elif op == "satp":

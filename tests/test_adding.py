@@ -19,6 +19,7 @@ FILES = {
     "crates/high/src/page.rt": "enum Level { Kilo, Giga }\n",
     "crates/high/specs/Paging.antt": "fewest : 1\n",
     "crates/rows/src/debugging.rt": "[Sv39, Sv48]\n",
+    "crates/printed_lines/proofs/HexText.antt": "39 or 48\n",
     "tools/model.py": "WIDTHS = {8: 39, 9: 48}\n",
     "tests/test_modes.py": "from model import sv39, sv48\n" + "\n" * 30 + "load('sv48')\n",
     "README.md": "A board.\n",

@@ -2,7 +2,7 @@
 use board_core::{Entry, FetchWord, HartSet};
 
 /// Why an access is stale or unsteady.
-#[derive(Clone, Copy, Debug)]
+#[derive(Clone, Copy)]
 pub struct AccessCause {
     /// The place of the access.
     pub place: usize,
@@ -18,13 +18,10 @@ pub struct AccessCause {
     pub changed: usize,
     /// The fence that would have ended it.
     pub fencing: Fencing,
-    /// Whether a fence call that covers the access succeeded, and the page tables haven't given what its entry gives since the call was
-    /// made (SBI 8).
-    pub is_missed: bool,
 }
 
 /// What an access used, or may use, though the page tables or the memory give another.
-#[derive(Clone, Copy, Debug)]
+#[derive(Clone, Copy)]
 pub enum Held {
     /// A translation.
     Entry(Entry),
@@ -33,7 +30,7 @@ pub enum Held {
 }
 
 /// Since when a hart holds something, or may hold it.
-#[derive(Clone, Copy, Debug)]
+#[derive(Clone, Copy)]
 pub enum Origin {
     /// An access filled it at this place.
     Filled(usize),
@@ -58,7 +55,7 @@ pub enum Origin {
 }
 
 /// The fence that would have ended what a hart holds.
-#[derive(Clone, Copy, Debug)]
+#[derive(Clone, Copy)]
 pub enum Fencing {
     /// A call asked for one between the change and the access. This is the first that covers the address.
     Asked {
@@ -66,8 +63,8 @@ pub enum Fencing {
         place: usize,
         /// The harts that it asked.
         harts: HartSet,
-        /// Whether it still waited at the hart of the access.
-        waits: bool,
+        /// What became of it at the hart of the access.
+        reach: Reach,
     },
     /// No call asked for one between the change and the access.
     Absent {
@@ -76,4 +73,23 @@ pub enum Fencing {
         /// The first one after the access.
         next: Option<usize>,
     },
+}
+
+/// What became of a call's fence at the hart of an access.
+#[derive(Clone, Copy)]
+pub enum Reach {
+    /// The call didn't ask the hart.
+    NotAsked,
+    /// It still waited there.
+    Waits,
+    /// The hart stopped before it served it.
+    Stopped,
+}
+
+/// What an access used, or may use, and since when: a cause without its fence.
+#[derive(Clone, Copy)]
+pub(crate) struct Finding {
+    pub(crate) held: Held,
+    pub(crate) origin: Origin,
+    pub(crate) changed: usize,
 }

@@ -1,28 +1,24 @@
-//! A stale entry, followed through a record: since when the page tables don't give it, and whether fence calls missed it.
-use crate::fences::{Fenced, has, with};
+//! A stale entry, followed through a record: since when the page tables don't give it.
+ghost use Rattle.std.specs.Prelude.{◌<◌};
+
+use crate::cause::{Finding, Held, Origin};
 use crate::seen::Seen;
 use crate::sight::Sight;
 use any_tlb::agrees;
-use board_core::{Board, Entry, HartSet};
+use board_core::{Board, Entry};
 use sv39::{Satp, walk};
-use tlb_watch::CacheEffect;
 
 /// A stale entry.
 #[derive(Drop)]
 pub(crate) struct EntryLook {
-    pub(crate) entry: Entry,
-    pub(crate) filled: usize,
+    entry: Entry,
+    filled: usize,
+    /// By the result it gives another physical address or fault than the page tables, else another leaf.
     by_result: bool,
     /// The hart's last satp with the entry's address space.
     satp: Satp,
     /// The place of the event since which the page tables don't give it.
-    pub(crate) since: Option<usize>,
-    /// Neither the hart's present satp nor that of the access gives what the entry gives.
-    is_other: bool,
-    /// The harts inside a call that covers the access and was made meanwhile.
-    asking: HartSet,
-    /// Whether such a call succeeded.
-    pub(crate) is_missed: bool,
+    since: Option<usize>,
 }
 
 impl EntryLook {
@@ -34,78 +30,48 @@ impl EntryLook {
             by_result,
             satp: Satp::bare(),
             since: None,
-            is_other: false,
-            asking: HartSet::new(),
-            is_missed: false,
         }
     }
 
-    /// An event was the board's last, and these are the record's fences up to it.
-    pub(crate) fn happened(
-        &mut self,
-        sight: &Sight,
-        board: &Board,
-        seen: &Seen,
-        fences: &[Fenced],
-    ) {
-        let hart = sight.at.hart;
-        if hart >= board.config().harts {
-            return;
-        }
-        self.follow_calls(sight, seen, fences);
-        let register = board.view().satp_register(hart);
-        if register.translates() && self.has_space(register) {
+    /// An event was the board's last. It counts from the fill on, if the memory or the satp changed.
+    pub(crate) fn happened(&mut self, sight: &Sight, board: &Board, seen: &Seen)
+        requires { sight.now.at.hart < board.now.opening.config.harts }
+    {
+        let register = board.view().satp_register(sight.at.hart);
+        let is_new = self.has_space(register) && register.bits() != self.satp.bits();
+        if is_new {
             self.satp = register;
         }
-        self.since = since(self.since, self.is_changed(sight, board), seen.place);
-        self.is_other = self.is_other_by(sight, board, register)
-            && self.is_other_by(sight, board, sight.satp);
-        if !self.is_other {
-            self.asking = HartSet::new();
-            self.is_missed = false;
+        if seen.place >= self.filled && (is_new || seen.is_write) {
+            self.since = since(self.since, self.is_changed(sight, board), seen.place);
         }
     }
 
-    /// Whether a satp has the entry's address space.
+    /// Whether a satp translates in the entry's address space.
     fn has_space(&self, satp: Satp) -> bool {
-        self.entry.leaf().global || satp.asid() == u64::from(self.entry.asid())
+        satp.translates()
+            && (self.entry.leaf().global || satp.asid() == u64::from(self.entry.asid()))
     }
 
     /// Whether a walk by the last satp with the entry's address space gives another result, or another leaf.
     fn is_changed(&self, sight: &Sight, board: &Board) -> bool {
+        let walked = walk(board.view().ram(), self.satp, sight.at.address, sight.kind);
         if self.by_result {
-            return self.is_other_by(sight, board, self.satp);
+            return !agrees(&self.entry, sight.at.address, sight.kind, walked);
         }
-        match walk(board.view().ram(), self.satp, sight.at.address, sight.kind) {
+        match walked {
             Ok(leaf) => leaf != self.entry.leaf(),
             Err(_) => true,
         }
     }
 
-    /// Whether a walk by a satp gives the access another physical address or fault than the entry.
-    fn is_other_by(&self, sight: &Sight, board: &Board, satp: Satp) -> bool {
-        let walked = walk(board.view().ram(), satp, sight.at.address, sight.kind);
-        !agrees(&self.entry, sight.at.address, sight.kind, walked)
-    }
-
-    /// Notes which harts are inside a call that covers the access, and whether one succeeded (SBI 8).
-    fn follow_calls(&mut self, sight: &Sight, seen: &Seen, fences: &[Fenced]) {
-        if let Some(fence) = fences.last()
-            && fence.place == seen.place
-            && fence.is_call
-            && self.is_other
-            && fence.covers(&self.entry, sight.at.address)
-        {
-            self.asking = with(self.asking, fence.by);
-        }
-        if let Some(hart) = seen.polled
-            && has(&self.asking, hart)
-        {
-            self.is_missed = true;
-        }
-        if seen.effect == CacheEffect::Reset {
-            self.asking = HartSet::new();
-        }
+    /// The entry, as the cause of an access that used it.
+    pub(crate) fn finding(&self) -> Option<Finding> {
+        Some(Finding {
+            held: Held::Entry(self.entry),
+            origin: Origin::Filled(self.filled),
+            changed: self.since?,
+        })
     }
 }
 

@@ -2,29 +2,30 @@
 ghost use Rattle.std.specs.Prelude.{◌<◌};
 ghost use Rattle.board_terms.specs.Limits.{IsGood};
 
-use crate::cause::{AccessCause, Fencing, Held};
+use crate::cause::{AccessCause, Fencing, Finding, Held, Reach};
+use crate::seen::Seen;
 use board_core::{Actor, Board, Config, Entry, Event, Fence, Flush, HartSet, Op, Range, Reply};
-use hart_mask::targets;
 use sbi_abi::call::RfenceCall;
 use sbi_abi::{Call, decode};
 use sv39::PAGE_BYTES;
+use tlb_watch::HartAddress;
 
 /// A fence of a record.
 #[derive(Drop)]
 pub(crate) struct Fenced {
-    pub(crate) place: usize,
+    place: usize,
     /// The hart that made it, or asked for it.
-    pub(crate) by: u64,
+    by: u64,
     flush: Flush,
     /// The harts that are fenced.
     harts: HartSet,
     /// It is a remote fence, whose call waits.
-    pub(crate) is_call: bool,
+    is_call: bool,
 }
 
 impl Fenced {
-    /// The fence that an event in this place is, on the board as it is after it.
-    pub(crate) fn of(board: &Board, place: usize, event: &Event) -> Option<Fenced> {
+    /// The fence that an event is, on the board as it is after it.
+    pub(crate) fn of(board: &Board, seen: &Seen, event: &Event) -> Option<Fenced> {
         let Actor::Hart(by) = event.actor() else {
             return None;
         };
@@ -32,15 +33,9 @@ impl Fenced {
             return None;
         }
         match event.op() {
-            Op::Sfence(va, asid) => {
-                let fence = Fence::of_address(board.config().spaces(), va, asid);
-                Some(Fenced::own(place, by, Flush::Entries(fence)))
-            }
-            Op::FenceI => Some(Fenced::own(place, by, Flush::Words)),
-            Op::Ecall(regs) => match decode(&regs) {
-                Call::Rfence(call) if event.reply() == Reply::Waiting => {
-                    Some(Fenced::asked(board, place, by, call))
-                }
+            Op::Sfence(..) | Op::FenceI => Fenced::own(seen, by),
+            Op::Ecall(regs) if event.reply() == Reply::Waiting => match decode(&regs) {
+                Call::Rfence(call) => Some(Fenced::asked(board, seen, by, call)),
                 _ => None,
             },
             _ => None,
@@ -48,32 +43,31 @@ impl Fenced {
     }
 
     /// A hart's own fence.
-    fn own(place: usize, by: u64, flush: Flush) -> Fenced {
-        Fenced {
-            place,
+    fn own(seen: &Seen, by: u64) -> Option<Fenced>
+        requires { by < 128 }
+    {
+        let mut harts = HartSet::new();
+        harts.insert(by);
+        Some(Fenced {
+            place: seen.place,
             by,
-            flush,
-            harts: with(HartSet::new(), by),
+            flush: seen.flush_at(by)?,
+            harts,
             is_call: false,
-        }
+        })
     }
 
     /// A remote fence, on the board as it is after its call (SBI 8).
-    fn asked(board: &Board, place: usize, by: u64, call: RfenceCall) -> Fenced
+    fn asked(board: &Board, seen: &Seen, by: u64, call: RfenceCall) -> Fenced
         requires { by < board.now.opening.config.harts }
     {
-        let others = match board.outstanding(by) {
-            Some(harts) => harts,
-            None => HartSet::new(),
-        };
         let config = board.config();
-        let harts = if names(config, call, by) {
-            with(others, by)
-        } else {
-            others
-        };
+        let mut harts = board.outstanding(by).unwrap_or(HartSet::new());
+        if seen.flush_at(by).is_some() {
+            harts.insert(by);
+        }
         Fenced {
-            place,
+            place: seen.place,
             by,
             flush: flush_of(config, call),
             harts,
@@ -81,37 +75,20 @@ impl Fenced {
         }
     }
 
-    /// Whether the fence covers an entry that a hart holds for an address (Privileged 4.2.1).
-    pub(crate) fn covers(&self, entry: &Entry, address: u64) -> bool {
-        match self.flush {
-            Flush::Entries(fence) => {
+    /// Whether a hart is fenced.
+    fn is_at(&self, hart: u64) -> bool {
+        hart < 128 && self.harts.contains(hart)
+    }
+
+    /// Whether the fence covers what a hart holds for an address (Privileged 4.2.1; Zifencei).
+    fn ends(&self, held: &Held, address: u64) -> bool {
+        match (self.flush, held) {
+            (Flush::Entries(fence), Held::Entry(entry)) => {
                 is_of_page(fence.range, address) && is_of_space(fence.asid, entry)
             }
-            Flush::Words => false,
+            (Flush::Words, Held::Word(_)) => true,
+            _ => false,
         }
-    }
-
-    /// Whether the fence covers what the access of a cause used or may use (Privileged 4.2.1; Zifencei).
-    fn ends(&self, cause: &AccessCause) -> bool {
-        match &cause.held {
-            Held::Entry(entry) => self.covers(entry, cause.address),
-            Held::Word(_) => self.flush == Flush::Words,
-        }
-    }
-}
-
-/// Whether a remote fence's hart list names a hart (SBI 3, Hart list parameter).
-fn names(config: &Config, call: RfenceCall, hart: u64) -> bool
-    requires { IsGood config.now }
-{
-    let (mask, base) = match call {
-        RfenceCall::RemoteFenceI { mask, base }
-        | RfenceCall::RemoteSfenceVma { mask, base, .. }
-        | RfenceCall::RemoteSfenceVmaAsid { mask, base, .. } => (mask, base),
-    };
-    match targets(mask, base, config.harts) {
-        Ok(harts) => has(&harts, hart),
-        Err(_) => false,
     }
 }
 
@@ -150,65 +127,73 @@ fn is_of_page(range: Option<Range>, va: u64) -> bool {
     }
 }
 
-/// The set with one hart more, if there can be such a hart.
-pub(crate) fn with(harts: HartSet, hart: u64) -> HartSet {
-    let mut harts = harts;
-    if hart < 128 {
-        harts.insert(hart);
-    }
-    harts
-}
-
-/// Whether a hart is in a set.
-pub(crate) fn has(harts: &HartSet, hart: u64) -> bool {
-    hart < 128 && harts.contains(hart)
-}
-
-/// The fence that would have ended what the access of a cause used or may use, by the record's fences so far, on the board before the
-/// access.
-pub(crate) fn fencing_of(board: &Board, cause: &AccessCause, fences: &[Fenced]) -> Fencing {
-    match first_call(cause, fences) {
+/// The fence that would have ended what an access used or may use, by the record's fences so far, on the board before the access.
+pub(crate) fn fencing_of(
+    board: &Board,
+    at: HartAddress,
+    finding: &Finding,
+    fences: &[Fenced],
+) -> Fencing {
+    match first_call(at, finding, fences) {
         Some(call) => Fencing::Asked {
             place: call.place,
             harts: call.harts,
-            waits: is_waiting(board, cause.hart, call),
+            reach: reach_of(board, at.hart, call),
         },
         None => Fencing::Absent {
-            before: last_before(cause, fences),
+            before: last_before(at, finding, fences),
             next: None,
         },
     }
 }
 
-/// The first call behind the change that covers what the access of a cause used or may use.
-fn first_call<'a>(cause: &AccessCause, fences: &'a [Fenced]) -> Option<&'a Fenced> {
-    for fence in fences {
-        if fence.is_call && cause.changed < fence.place && fence.ends(cause) {
+/// The fences up to a place, and those behind it. Their places ascend.
+fn parted(fences: &[Fenced], place: usize) -> (&[Fenced], &[Fenced]) {
+    fences.split_at(fences.partition_point(|fence| fence.place <= place))
+}
+
+/// The first call behind the change that covers what an access used or may use.
+fn first_call<'a>(at: HartAddress, finding: &Finding, fences: &'a [Fenced]) -> Option<&'a Fenced> {
+    let (_, behind) = parted(fences, finding.changed);
+    for fence in behind {
+        if fence.is_call && fence.ends(&finding.held, at.address) {
             return Some(fence);
         }
     }
     None
 }
 
-/// The place of the hart's last fence before the change that covers what the access of a cause used or may use.
-fn last_before(cause: &AccessCause, fences: &[Fenced]) -> Option<usize> {
-    let mut found = None;
-    for fence in fences {
-        if fence.place < cause.changed && has(&fence.harts, cause.hart) && fence.ends(cause) {
-            found = Some(fence.place);
-        }
-    }
-    found
-}
-
-/// The place of the hart's first fence behind the access of a cause that covers what it used or may use.
-pub(crate) fn next_behind(cause: &AccessCause, fences: &[Fenced]) -> Option<usize> {
-    for fence in fences {
-        if cause.place < fence.place && has(&fence.harts, cause.hart) && fence.ends(cause) {
+/// The place of the hart's last fence before the change that covers what an access used or may use. (No fence is a change.)
+fn last_before(at: HartAddress, finding: &Finding, fences: &[Fenced]) -> Option<usize> {
+    let (before, _) = parted(fences, finding.changed);
+    for fence in before.iter().rev() {
+        if fence.is_at(at.hart) && fence.ends(&finding.held, at.address) {
             return Some(fence.place);
         }
     }
     None
+}
+
+/// The place of the hart's first fence behind the access of a cause that covers what it used or may use.
+pub(crate) fn next_behind(cause: &AccessCause, fences: &[Fenced]) -> Option<usize> {
+    let (_, behind) = parted(fences, cause.place);
+    for fence in behind {
+        if fence.is_at(cause.hart) && fence.ends(&cause.held, cause.address) {
+            return Some(fence.place);
+        }
+    }
+    None
+}
+
+/// What became of the fence of a call at a hart.
+fn reach_of(board: &Board, hart: u64, call: &Fenced) -> Reach {
+    if !call.is_at(hart) {
+        Reach::NotAsked
+    } else if is_waiting(board, hart, call) {
+        Reach::Waits
+    } else {
+        Reach::Stopped
+    }
 }
 
 /// Whether the fence of a call waits at a hart.

@@ -2,20 +2,17 @@
 ghost use Rattle.std.specs.Prelude.{IfSome};
 ghost use Rattle.board_terms.specs.Limits.{IsGood};
 
-use crate::cause::AccessCause;
-use crate::fences::Fenced;
+use crate::cause::{AccessCause, Fencing};
+use crate::fences::{Fenced, next_behind};
 use crate::look::Look;
 use crate::seen::{Seen, is_quiet};
 use crate::sight::Sight;
 use board_core::{Board, Config, Event};
 use std::alloc::{AllocError, Global};
 
-/// The most events that a board's history holds (profile).
-const MOST_EVENTS: u64 = 1_000_000;
-
 /// Why the accesses in these places of a record are stale or unsteady, on a board with these numbers from its first opening on. The
 /// places ascend. An access that is neither has no cause, nor has one of a record with more events than a history can have. The cost
-/// is linear in the events, and for each in the places.
+/// is linear in the events, and for each that changes the memory, a satp or a TLB in the places.
 ///
 /// # Errors
 ///
@@ -25,51 +22,106 @@ pub fn causes_of(
     config: &Config,
     events: &[Event],
     places: &[usize],
-) -> Result<Vec<AccessCause>, AllocError>
-    requires { IsGood config.now }
-{
+) -> Result<Vec<AccessCause>, AllocError> {
     let mut causes = Vec::new(alloc);
     let Some(config) = with_room(config, events.len() as u64) else {
         return Ok(causes);
     };
-    let mut looks = looks_at(alloc, &config, events, places)?;
-    let fences = follow(alloc, &config, events, &mut looks)?;
-    for look in looks {
-        if let Some(cause) = look.told(&fences) {
+    let mut course = Course::new(alloc, &config, events)?;
+    let mut looks = looks_at(alloc, &config, &course, places)?;
+    for at in 0..looks.len() {
+        if let Some(cause) = next_cause(alloc, &mut course, &mut looks, at)? {
             causes.push(cause)?;
         }
     }
+    course.follow(alloc, events.len(), &mut looks)?;
+    see_next(&mut causes, &course.fences);
     Ok(causes)
 }
 
-/// The same board with a history of so many events, in which a record with cuts has room. None: no history has so many.
-fn with_room(config: &Config, events: u64) -> Option<Config>
-    requires { IsGood config.now }
+/// The same board with a history of so many events, in which a record with cuts has room. None: no history has so many (profile).
+pub fn with_room(config: &Config, events: u64) -> Option<Config>
     ensures { IfSome result IsGood }
 {
-    if events > MOST_EVENTS {
-        return None;
-    }
     let mut roomy = *config;
     roomy.limit = events.max(1);
+    if !roomy.is_good() {
+        return None;
+    }
     Some(roomy)
 }
 
-/// The looks for the accesses in these places, before the first event.
+/// A record, whose events a board takes one by one, and its fences so far.
+#[derive(Drop)]
+struct Course<'a> {
+    board: Board,
+    events: &'a [Event],
+    fences: Vec<Fenced>,
+}
+
+impl<'a> Course<'a> {
+    /// Before the first event.
+    fn new(alloc: Global, config: &Config, events: &'a [Event]) -> Result<Course<'a>, AllocError> {
+        Ok(Course {
+            board: new_board(alloc, config)?,
+            events,
+            fences: Vec::new(alloc),
+        })
+    }
+
+    /// Takes the events up to this place, and shows the looks each that can change what they look at.
+    fn follow(
+        &mut self,
+        alloc: Global,
+        place: usize,
+        looks: &mut [Look],
+    ) -> Result<(), AllocError> {
+        let events = self.events;
+        let from = self.board.history().len();
+        if let Some(left) = events.get(from..place) {
+            for (after, event) in left.iter().enumerate() {
+                self.take(alloc, from.saturating_add(after), event, looks)?;
+            }
+        }
+        Ok(())
+    }
+
+    /// Takes the event of this place.
+    fn take(
+        &mut self,
+        alloc: Global,
+        place: usize,
+        event: &Event,
+        looks: &mut [Look],
+    ) -> Result<(), AllocError> {
+        if is_quiet(event.op()) {
+            take(&mut self.board, event);
+            return Ok(());
+        }
+        let seen = Seen::of(&self.board, place, event);
+        take(&mut self.board, event);
+        if let Some(fence) = Fenced::of(&self.board, &seen, event) {
+            self.fences.push(fence)?;
+        }
+        show(alloc, &self.board, &seen, looks)
+    }
+}
+
+/// The looks for the accesses in these places, on a board before its first event.
 fn looks_at(
     alloc: Global,
     config: &Config,
-    events: &[Event],
+    course: &Course<'_>,
     places: &[usize],
 ) -> Result<Vec<Look>, AllocError> {
     let mut looks = Vec::new(alloc);
     let mut board = new_board(alloc, config)?;
     for place in places {
-        advance(&mut board, events, *place);
-        if let Some(event) = events.get(*place)
+        advance(&mut board, course.events, *place);
+        if let Some(event) = course.events.get(*place)
             && let Some(sight) = Sight::of(&board, *place, event)
         {
-            looks.push(Look::new(alloc, sight))?;
+            looks.push(Look::new(alloc, &course.board, sight))?;
         }
     }
     Ok(looks)
@@ -80,61 +132,55 @@ fn advance(board: &mut Board, events: &[Event], place: usize) {
     let from = board.history().len();
     if let Some(left) = events.get(from..place) {
         for event in left {
-            let _ = board.step(event.actor(), event.op());
+            take(board, event);
         }
     }
 }
 
-/// Shows the looks each event that can change what they look at. Returns the fences of the record.
-fn follow(
-    alloc: Global,
-    config: &Config,
-    events: &[Event],
-    looks: &mut [Look],
-) -> Result<Vec<Fenced>, AllocError> {
-    let mut fences = Vec::new(alloc);
-    let mut board = new_board(alloc, config)?;
-    for (place, event) in events.iter().enumerate() {
-        arrive(alloc, &board, &fences, place, looks)?;
-        let seen = Seen::of(&board, place, event);
-        let _ = board.step(event.actor(), event.op());
-        if is_quiet(event.op()) {
-            continue;
-        }
-        if let Some(fence) = Fenced::of(&board, place, event) {
-            fences.push(fence)?;
-        }
-        show(alloc, &board, &seen, &fences, looks)?;
-    }
-    Ok(fences)
+/// Makes the board take the step of an event.
+fn take(board: &mut Board, event: &Event) {
+    let _ = board.step(event.actor(), event.op());
 }
 
-/// The board stands before the event of this place, and these are the record's fences so far.
-fn arrive(
-    alloc: Global,
-    board: &Board,
-    fences: &[Fenced],
-    place: usize,
-    looks: &mut [Look],
-) -> Result<(), AllocError> {
-    for look in looks.iter_mut() {
-        look.arrive(alloc, board, fences, place)?;
-    }
-    Ok(())
-}
-
-/// An event was the board's last, and these are the record's fences up to it.
+/// An event was the board's last.
 fn show(
     alloc: Global,
     board: &Board,
     seen: &Seen,
-    fences: &[Fenced],
     looks: &mut [Look],
 ) -> Result<(), AllocError> {
     for look in looks.iter_mut() {
-        look.happened(alloc, board, seen, fences)?;
+        look.happened(alloc, board, seen)?;
     }
     Ok(())
+}
+
+/// Follows the record up to one of the accesses, and finds its cause.
+fn next_cause(
+    alloc: Global,
+    course: &mut Course<'_>,
+    looks: &mut [Look],
+    at: usize,
+) -> Result<Option<AccessCause>, AllocError> {
+    let place = match looks.get(at) {
+        Some(look) => look.place(),
+        None => return Ok(None),
+    };
+    course.follow(alloc, place, looks)?;
+    match looks.get(at) {
+        Some(look) => look.cause(alloc, &course.board, &course.fences),
+        None => Ok(None),
+    }
+}
+
+/// Adds to causes without a fence the next one of the record.
+fn see_next(causes: &mut [AccessCause], fences: &[Fenced]) {
+    for cause in causes.iter_mut() {
+        if let Fencing::Absent { before, .. } = cause.fencing {
+            let next = next_behind(&*cause, fences);
+            cause.fencing = Fencing::Absent { before, next };
+        }
+    }
 }
 
 /// A board with these numbers before its first event.

@@ -9,9 +9,10 @@ mod fences;
 mod following;
 mod look;
 mod possible_look;
+mod runs;
 mod seen;
 mod sight;
 mod word_look;
 
-pub use cause::{AccessCause, Fencing, Held, Origin};
-pub use following::causes_of;
+pub use cause::{AccessCause, Fencing, Held, Origin, Reach};
+pub use following::{causes_of, with_room};

@@ -1,9 +1,13 @@
 //! The entries that a hart's TLB may hold for an address, followed through a record: since when the page tables gave each, and up to
 //! when (Privileged 4.2.1, 4.3.2).
+ghost use Rattle.std.specs.Prelude.{◌<◌};
+
+use crate::cause::{Finding, Held, Origin};
+use crate::runs::{Run, is_given, later, runs_after};
 use crate::seen::Seen;
 use crate::sight::Sight;
 use any_tlb::{EntryWatch, Walking, Walks, agrees};
-use board_core::{Board, Entry, Flush, Leaf};
+use board_core::{Board, Entry, Flush};
 use std::alloc::{AllocError, Global};
 use sv39::{Ram, Satp};
 use tlb_model::{Address, Cached};
@@ -17,48 +21,10 @@ struct Had {
     until: Option<usize>,
 }
 
-/// A former satp by which walks still give an entry.
-#[derive(Clone, Copy)]
-pub(crate) struct Former {
-    pub(crate) bits: u64,
-    pub(crate) from: usize,
-    pub(crate) until: usize,
-}
-
-/// An entry that walks gave, since the event in one place, up to the one in another, or to now.
-#[derive(Clone, Copy)]
-pub(crate) struct Run {
-    leaf: Leaf,
-    asid: u16,
-    pub(crate) from: usize,
-    pub(crate) until: Option<usize>,
-}
-
-impl Run {
-    /// Walks have given an entry since the event in this place.
-    fn new(entry: &Entry, from: usize) -> Run {
-        Run {
-            leaf: entry.leaf(),
-            asid: entry.asid(),
-            from,
-            until: None,
-        }
-    }
-
-    /// The entry.
-    pub(crate) fn entry(&self) -> Entry {
-        Entry::new(self.leaf, self.asid)
-    }
-
-    /// Whether this is an entry's.
-    fn is_of(&self, entry: &Entry) -> bool {
-        self.leaf == entry.leaf() && self.asid == entry.asid()
-    }
-}
-
 /// The entries that a hart's TLB may hold for an address.
 #[derive(Drop)]
 pub(crate) struct PossibleLook {
+    /// The satps by which walks may have begun, and the fences that were applied since, each once.
     walks: Walks,
     /// The satps that the hart had since the last reset, oldest first.
     satps: Vec<Had>,
@@ -75,7 +41,7 @@ impl PossibleLook {
         }
     }
 
-    /// An event was the board's last.
+    /// An event was the board's last. It counts if the memory or the hart's satp changed, or the hart fenced.
     ///
     /// # Errors
     ///
@@ -86,39 +52,63 @@ impl PossibleLook {
         sight: &Sight,
         board: &Board,
         seen: &Seen,
-    ) -> Result<(), AllocError> {
-        let hart = sight.at.hart;
-        if hart >= board.config().harts {
+    ) -> Result<(), AllocError>
+        requires { sight.now.at.hart < board.now.opening.config.harts }
+    {
+        let satp = board.view().satp_register(sight.at.hart);
+        let flush = seen.flush_at(sight.at.hart);
+        if seen.effect == CacheEffect::Reset {
+            self.clear();
+        }
+        if !seen.is_write && flush.is_none() && self.is_last(satp) {
             return Ok(());
         }
-        let flush = match seen.effect {
-            CacheEffect::Applied(at, flush) if at == hart => Some(flush),
-            _ => None,
-        };
-        if let Some(flush) = flush {
-            self.walks.fence(flush)?;
-        }
-        if seen.effect == CacheEffect::Reset {
-            self.walks.clear();
-            self.satps.clear();
-            self.runs.clear();
-        }
-        self.see_satp(board.view().satp_register(hart), seen.place)?;
+        self.log(flush, satp)?;
+        self.see_satp(satp, seen.place)?;
         let mut given = EntryWatch::new(alloc, sight.at.address);
         given.replay(board.view().ram(), &self.walks)?;
         self.runs = runs_after(alloc, &self.runs, &given.entries, flush, seen.place)?;
         Ok(())
     }
 
+    /// A reset empties the caches.
+    fn clear(&mut self) {
+        self.walks.clear();
+        self.satps.clear();
+        self.runs.clear();
+    }
+
+    /// Whether this satp is the last that the hart had.
+    fn is_last(&self, satp: Satp) -> bool {
+        match self.satps.last() {
+            Some(last) => last.satp.bits() == satp.bits(),
+            None => !satp.translates(),
+        }
+    }
+
+    /// Logs that the hart applied this fence, if it applied one, and has this satp since. An older note of either says nothing more.
+    fn log(&mut self, flush: Option<Flush>, satp: Satp) -> Result<(), AllocError> {
+        let bits = satp.bits();
+        let walks = &mut self.walks;
+        walks.items.retain(|walking| !is_had(walking, bits));
+        if let Some(flush) = flush
+            && !walks.items.is_empty()
+        {
+            walks.items.retain(|walking| !is_fence(walking, flush));
+            walks.fence(flush)?;
+        }
+        if satp.translates() {
+            walks.has(satp)?;
+        }
+        Ok(())
+    }
+
     /// The hart has this satp behind this place.
     fn see_satp(&mut self, satp: Satp, place: usize) -> Result<(), AllocError> {
-        let bits = satp.bits();
-        self.walks.items.retain(|walking| !is_had(walking, bits));
-        self.walks.has(satp)?;
+        if self.is_last(satp) {
+            return Ok(());
+        }
         if let Some(last) = self.satps.last_mut() {
-            if last.satp.bits() == bits {
-                return Ok(());
-            }
             last.until = Some(place);
         }
         self.satps.push(Had {
@@ -129,10 +119,35 @@ impl PossibleLook {
         Ok(())
     }
 
-    /// The entry that gives the access another result than the page tables, if there is one: of several the one that walks gave last.
-    pub(crate) fn other(&self, sight: &Sight) -> Option<Run> {
-        let va = sight.at.address;
-        if !va.is_multiple_of(8) || !sight.satp.translates() || !sight.satp.is_valid(va) {
+    /// The entry that gives the access another result than the page tables, if there is one, as its cause: of several the one that
+    /// walks gave last.
+    ///
+    /// # Errors
+    ///
+    /// Memory was refused.
+    pub(crate) fn finding(
+        &self,
+        alloc: Global,
+        sight: &Sight,
+        ram: &Ram,
+    ) -> Result<Option<Finding>, AllocError> {
+        let Some(run) = self.other(sight) else {
+            return Ok(None);
+        };
+        let Some((origin, changed)) = self.origin(alloc, sight, ram, &run)? else {
+            return Ok(None);
+        };
+        let held = Held::Entry(run.entry());
+        Ok(Some(Finding {
+            held,
+            origin,
+            changed,
+        }))
+    }
+
+    /// The run of that entry.
+    fn other(&self, sight: &Sight) -> Option<Run> {
+        if !is_translated(sight) {
             return None;
         }
         let mut found = None;
@@ -144,18 +159,31 @@ impl PossibleLook {
         found
     }
 
-    /// The last former satp by which walks give an entry now. If they may give it, no fence since has ended such a walk.
-    ///
-    /// # Errors
-    ///
-    /// Memory was refused.
-    pub(crate) fn former(
+    /// Since when a hart may hold a run's entry, and the place since which the page tables don't give it.
+    fn origin(
         &self,
         alloc: Global,
         sight: &Sight,
         ram: &Ram,
         run: &Run,
-    ) -> Result<Option<Former>, AllocError> {
+    ) -> Result<Option<(Origin, usize)>, AllocError> {
+        match run.until {
+            Some(until) => {
+                let from = run.from;
+                Ok(Some((Origin::Given { from, until }, until)))
+            }
+            None => self.former(alloc, sight, ram, run),
+        }
+    }
+
+    /// The last former satp by which walks give an entry now. If they may give it, no fence since has ended such a walk.
+    fn former(
+        &self,
+        alloc: Global,
+        sight: &Sight,
+        ram: &Ram,
+        run: &Run,
+    ) -> Result<Option<(Origin, usize)>, AllocError> {
         let mut found = None;
         for had in self.satps.iter() {
             let mut given = EntryWatch::new(alloc, sight.at.address);
@@ -163,15 +191,26 @@ impl PossibleLook {
             if let Some(until) = had.until
                 && is_given(run, &given.entries)
             {
-                found = Some(Former {
-                    bits: had.satp.bits(),
-                    from: had.from,
-                    until,
-                });
+                found = Some((by_satp(had, until), until));
             }
         }
         Ok(found)
     }
+}
+
+/// A former satp up to a place, as an entry's origin.
+fn by_satp(had: &Had, until: usize) -> Origin {
+    Origin::BySatp {
+        satp: had.satp.bits(),
+        from: had.from,
+        until,
+    }
+}
+
+/// Whether the access is translated, if its satp is valid for the address (profile: it is aligned to 8).
+fn is_translated(sight: &Sight) -> bool {
+    let va = sight.at.address;
+    va.is_multiple_of(8) && sight.satp.translates() && sight.satp.is_valid(va)
 }
 
 /// Whether an access would use an entry that gives it another result than the page tables.
@@ -191,81 +230,10 @@ fn is_had(walking: &Walking, bits: u64) -> bool {
     }
 }
 
-/// Of two runs the one in which walks gave the entry last; of equal ones the second.
-fn later(a: Option<Run>, b: Run) -> Run {
-    match a {
-        Some(a) if is_later(a.until, b.until) => a,
-        _ => b,
+/// Whether an item of a log of walks says that the hart applied this fence.
+fn is_fence(walking: &Walking, flush: Flush) -> bool {
+    match walking {
+        Walking::Had(_) => false,
+        Walking::Fenced(other) => *other == flush,
     }
-}
-
-/// Whether the first of two runs ended later than the second: not yet, or at a later place.
-fn is_later(a: Option<usize>, b: Option<usize>) -> bool {
-    match (a, b) {
-        (None, Some(_)) => true,
-        (Some(until), Some(other)) => until > other,
-        (_, None) => false,
-    }
-}
-
-/// The runs behind an event in this place, after which walks give these entries. It applied this fence, if it did.
-fn runs_after(
-    alloc: Global,
-    runs: &[Run],
-    given: &[Entry],
-    flush: Option<Flush>,
-    place: usize,
-) -> Result<Vec<Run>, AllocError> {
-    let mut after = Vec::new(alloc);
-    for run in runs {
-        if let Some(kept) = run_after(run, is_given(run, given), flush, place) {
-            after.push(kept)?;
-        }
-    }
-    for entry in given {
-        if !is_running(&after, entry) {
-            after.push(Run::new(entry, place))?;
-        }
-    }
-    Ok(after)
-}
-
-/// A run behind an event in this place. None: it begins anew, or a fence ended it.
-fn run_after(run: &Run, goes_on: bool, flush: Option<Flush>, place: usize) -> Option<Run> {
-    if goes_on {
-        return if run.until.is_none() {
-            Some(*run)
-        } else {
-            None
-        };
-    }
-    if let Some(flush) = flush
-        && run.entry().is_covered_by(flush)
-    {
-        return None;
-    }
-    Some(Run {
-        until: Some(run.until.unwrap_or(place)),
-        ..*run
-    })
-}
-
-/// Whether an entry has a run that goes on.
-fn is_running(runs: &[Run], entry: &Entry) -> bool {
-    for run in runs {
-        if run.is_of(entry) && run.until.is_none() {
-            return true;
-        }
-    }
-    false
-}
-
-/// Whether a run's entry is among these.
-fn is_given(run: &Run, given: &[Entry]) -> bool {
-    for entry in given {
-        if run.is_of(entry) {
-            return true;
-        }
-    }
-    false
 }

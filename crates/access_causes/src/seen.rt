@@ -1,30 +1,35 @@
 //! Events, as what is followed for accesses sees them.
 ghost use Rattle.std.specs.Prelude.{◌<◌};
 
-use board_core::{Actor, Board, Event, Op};
+use board_core::{Actor, Board, Event, Flush, Op};
 use tlb_watch::{CacheEffect, Ready};
 
 /// An event, as what is followed for an access sees it.
 #[derive(Clone, Copy)]
 pub(crate) struct Seen {
     pub(crate) place: usize,
-    /// The hart whose fence call succeeded.
-    pub(crate) polled: Option<u64>,
     /// What it did to caches, whatever they keep.
     pub(crate) effect: CacheEffect,
+    /// Whether it may have changed the memory.
+    pub(crate) is_write: bool,
 }
 
 impl Seen {
     /// The event in this place, on the board as it is before it.
     pub(crate) fn of(board: &Board, place: usize, event: &Event) -> Seen {
-        let polled = match (event.op(), event.actor()) {
-            (Op::Poll, Actor::Hart(hart)) => Some(hart),
-            _ => None,
-        };
+        let effect = effect_of(board, event);
         Seen {
             place,
-            polled,
-            effect: effect_of(board, event),
+            effect,
+            is_write: effect == CacheEffect::Reset || is_write(event.op()),
+        }
+    }
+
+    /// The fence that it applied at a hart, if it did.
+    pub(crate) fn flush_at(&self, hart: u64) -> Option<Flush> {
+        match self.effect {
+            CacheEffect::Applied(at, flush) if at == hart => Some(flush),
+            _ => None,
         }
     }
 }
@@ -45,12 +50,17 @@ fn effect_at(board: &Board, hart: u64, event: &Event) -> CacheEffect
     ready.effect(board.config(), event.op(), event.reply())
 }
 
-/// Whether an operation is no fence and no end of a call, and changes neither the memory nor a satp.
+/// Whether an operation may write the memory.
+fn is_write(op: Op) -> bool {
+    matches!(op, Op::Store(..) | Op::Amo(..))
+}
+
+/// Whether an operation is no fence, and changes neither the memory nor a satp.
 pub(crate) fn is_quiet(op: Op) -> bool {
     match op {
         Op::Load(_) | Op::Fetch(_) => true,
         Op::WriteSie(_) | Op::WriteSstatusSie(_) | Op::ReadSip | Op::ClearSsip | Op::Wfi => true,
-        Op::Tick(_) => true,
+        Op::Poll | Op::Tick(_) => true,
         _ => false,
     }
 }

@@ -77,21 +77,37 @@ fn used_by(
 ) -> Used
     requires { at.hart < board.now.opening.config.harts }
 {
-    if let Some(entry) = event.translation() {
-        let by_result = !agrees(&entry, at.address, access.kind(), walked);
-        if by_result || is_other_leaf(&entry, walked) {
-            let filled = entry_filled(board, at.hart, &entry);
-            return Used::Entry {
-                entry,
-                filled,
-                by_result,
-            };
-        }
+    if let Some(entry) = event.translation()
+        && let Some(used) = used_entry(board, at, access.kind(), walked, entry)
+    {
+        return used;
     }
     match access {
         Access::Fetch => used_word(board, at, event),
         _ => Used::Nothing { fetched: None },
     }
+}
+
+/// The entry that an access used, if it is stale.
+fn used_entry(
+    board: &Board,
+    at: HartAddress,
+    kind: Kind,
+    walked: Result<Leaf, Cause>,
+    entry: Entry,
+) -> Option<Used>
+    requires { at.hart < board.now.opening.config.harts }
+{
+    let by_result = !agrees(&entry, at.address, kind, walked);
+    if !by_result && !is_other_leaf(&entry, walked) {
+        return None;
+    }
+    let filled = entry_filled(board, at.hart, &entry)?;
+    Some(Used::Entry {
+        entry,
+        filled,
+        by_result,
+    })
 }
 
 /// Whether a walk gives another leaf than the entry's.
@@ -102,17 +118,17 @@ fn is_other_leaf(entry: &Entry, walked: Result<Leaf, Cause>) -> bool {
     }
 }
 
-/// The place at which the hart's latest live entry that is this one was filled.
-fn entry_filled(board: &Board, hart: u64, entry: &Entry) -> usize
+/// The place at which the hart's latest live entry that is this one was filled, if there is one.
+fn entry_filled(board: &Board, hart: u64, entry: &Entry) -> Option<usize>
     requires { hart < board.now.opening.config.harts }
 {
-    let mut place = 0;
+    let mut filled = None;
     for fill in board.tlb(hart) {
         if fill.item.leaf() == entry.leaf() && fill.item.asid() == entry.asid() {
-            place = fill.date as usize;
+            filled = Some(fill.date as usize);
         }
     }
-    place
+    filled
 }
 
 /// The word that a fetch used, if the memory has another.
@@ -127,10 +143,11 @@ fn used_word(board: &Board, at: HartAddress, event: &Event) -> Used
     };
     if let Reply::Value(word) = event.reply()
         && board.word(pa) != Some(word)
+        && let Some(filled) = word_filled(board, at.hart, pa)
     {
         return Used::Word {
             word: FetchWord { pa, word },
-            filled: word_filled(board, at.hart, pa),
+            filled,
         };
     }
     Used::Nothing {
@@ -138,17 +155,17 @@ fn used_word(board: &Board, at: HartAddress, event: &Event) -> Used
     }
 }
 
-/// The place at which the hart's latest live word of this physical address was filled.
-fn word_filled(board: &Board, hart: u64, pa: u64) -> usize
+/// The place at which the hart's latest live word of this physical address was filled, if there is one.
+fn word_filled(board: &Board, hart: u64, pa: u64) -> Option<usize>
     requires { hart < board.now.opening.config.harts }
 {
-    let mut place = 0;
+    let mut filled = None;
     for fill in board.fetched(hart) {
         if fill.item.pa == pa {
-            place = fill.date as usize;
+            filled = Some(fill.date as usize);
         }
     }
-    place
+    filled
 }
 
 /// The physical address of the word that a fetch reads by the page tables, if it reads one.

@@ -3,6 +3,8 @@ pub mod BoardLine
 pub mod Drafted
 pub mod FaultPlaces
 pub mod FaultsFound
+pub mod HartDigits
+pub mod HexDigits
 pub mod LineWords
 pub mod LinesFrom
 pub mod LinesOf

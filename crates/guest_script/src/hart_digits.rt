@@ -1,41 +1,46 @@
 //! The number of a hart, which most lines begin with.
-ghost use Rattle.std.specs.Prelude.{◌≡◌, ◌≤◌, ◌<◌, ◌∷◌, Some, IfSome, get_or, length};
-ghost use Rattle.line_words.specs.Values.{digit_after};
+ghost use Rattle.std.specs.Prelude.{◌≡◌, ◌+◌, ◌*◌, ◌%◌, ◌^◌, ◌<◌, ◌≤◌, IfSome, if◌then◌else◌, length};
 ghost use Rattle.guest_script.specs.Inside.PlainLines.{BeginsDigits};
 
-use line_words::push_digit;
-
-/// The number of at most three decimal digits that the bytes begin with, and what stands behind it. Most harts have one or two,
-/// and a blank ends them; each digit is read without a loop.
+/// The number of at most three decimal digits that the bytes begin with, and what stands behind it. Three bytes are looked at
+/// in any case, so no branch depends on how many digits there are.
 #[inline(always)]
 pub fn plain_hart(bytes: &[u8]) -> Option<(u64, &[u8])>
     ensures number { IfSome result (λ found. BeginsDigits 10 bytes.now found.0 found.1.now) }
     ensures shorter { IfSome result (λ found. length found.1.now ≤ length bytes.now) }
 {
-    let (one, rest) = plain_digit(0, bytes)?;
-    if rest.first() == Some(&b' ') {
-        return Some((one, rest));
+    let [first, second, third, ..] = bytes else {
+        return None;
+    };
+    let one = digit_value(*first);
+    if one > 9 {
+        return None;
     }
-    let (two, rest) = plain_digit(one, rest)?;
-    if rest.first() == Some(&b' ') {
-        return Some((two, rest));
-    }
-    let (three, rest) = plain_digit(two, rest)?;
-    Some((three, rest))
+    let two = digit_value(*second);
+    let three = digit_value(*third);
+    let has_two = two <= 9;
+    let has_three = has_two & (three <= 9);
+    let n = with_digit(one, two, has_two);
+    let n = with_digit(n, three, has_three);
+    let count = 1 + usize::from(has_two) + usize::from(has_three);
+    Some((n, &bytes[count..]))
 }
 
-/// The number of the digits of `n` and the one that the bytes begin with, and what stands behind it.
+/// The value of a decimal digit; it is more than 9 for each other byte.
 #[inline(always)]
-fn plain_digit(n: u64, bytes: &[u8]) -> Option<(u64, &[u8])>
-    ensures digit { IfSome result (λ found. bytes.now ≡ get_or bytes.now 0 0 ∷ found.1.now) }
-    ensures number { IfSome result (λ found. digit_after 10 n (get_or bytes.now 0 0) ≡ Some found.0) }
-    ensures shorter { IfSome result (λ found. length found.1.now < length bytes.now) }
+fn digit_value(byte: u8) -> u64
+    ensures value { result ≡ (byte + 208) % 256 }
+    ensures small { result < 256 }
 {
-    match bytes {
-        [digit, rest @ ..] => {
-            let more = push_digit(n, *digit, 10)?;
-            Some((more, rest))
-        }
-        [] => None,
-    }
+    u64::from(byte.wrapping_sub(b'0'))
+}
+
+/// The number with one more digit, if there is one.
+#[inline(always)]
+fn with_digit(n: u64, digit: u64, is_there: bool) -> u64
+    requires number { n < 2 ^ 32 }
+    requires digit { digit < 256 }
+    ensures { result ≡ (if is_there then n * 10 + digit else n) }
+{
+    if is_there { n * 10 + digit } else { n }
 }

@@ -12,6 +12,7 @@ mod line_kind;
 mod numbers;
 mod parsing;
 mod plain;
+mod plain_digits;
 mod progress;
 mod reader;
 mod step;

@@ -1,5 +1,5 @@
 //! Lines that stand in the form in which steps are printed, each read in one pass.
-ghost use Rattle.std.specs.Prelude.{◌≡◌, ◌≢◌, ◌+◌, ◌≤◌, ◌<◌, ◌++◌, ◌^◌, ◌∷◌, [], ℕ, List, Option, None, Some, IfOk, IfSome, MatchOption, length};
+ghost use Rattle.std.specs.Prelude.{◌≡◌, ◌≢◌, ◌+◌, ◌≤◌, ◌<◌, ◌++◌, ◌∷◌, [], ℕ, List, Option, None, Some, IfOk, IfSome, MatchOption, length};
 ghost use Rattle.board_terms.specs.declared.op.Op.{Op};
 ghost use Rattle.board_terms.specs.declared.op.Op.TheVariants.{Sfence};
 ghost use Rattle.script_lines.specs.declared.script.Line.{Line};
@@ -7,7 +7,7 @@ ghost use Rattle.guest_script.specs.Words.{last_number};
 ghost use Rattle.guest_script.specs.Grammar.{Guest};
 ghost use Rattle.guest_script.specs.Inside.Drafts.{in_guest, steps_of};
 ghost use Rattle.guest_script.specs.Reading.{GoesOn};
-ghost use Rattle.guest_script.specs.Inside.PlainLines.{BeginsActor, BeginsArgument, BeginsDigits, BeginsGuest, BeginsLine, BeginsName, BeginsNamed, BeginsNumber, BeginsNumbers, BeginsOp, BeginsSaid, BeginsSaidName, BeginsSigned, BeginsWord};
+ghost use Rattle.guest_script.specs.Inside.PlainLines.{BeginsActor, BeginsArgument, BeginsGuest, BeginsLine, BeginsName, BeginsNamed, BeginsNumber, BeginsNumbers, BeginsOp, BeginsSaid, BeginsSaidName, BeginsSigned, BeginsWord};
 ghost use Rattle.script_lines.specs.KeptLines.{plain_line};
 ghost use Rattle.script_lines.specs.Names.{op_word, said_word};
 ghost use Rattle.script_lines.specs.Packing.{FitsKept, op_made};
@@ -15,9 +15,10 @@ ghost use Rattle.script_lines.specs.Packing.{FitsKept, op_made};
 use crate::amo_letters::amo_by_letters;
 use crate::hart_digits::plain_hart;
 use crate::numbers::MOST_ARGUMENTS;
+use crate::plain_digits::{plain_digits, plain_hex};
 use arrayvec::ArrayVec;
 use board_terms::{Actor, Op};
-use line_words::{LAST_ABOVE, LAST_BELOW, below_zero, push_digit};
+use line_words::{LAST_ABOVE, LAST_BELOW, below_zero};
 use script_lines::{
     LAST_HART, Lines, MOST_LINES, OpName, OpShape, Places, Plain, Said, SaidName, words,
 };
@@ -520,7 +521,7 @@ fn plain_word(bytes: &[u8]) -> Option<(u64, &[u8])>
 {
     match after(bytes, b"0x") {
         Some(digits) => {
-            let (n, rest) = plain_digits(digits, 16)?;
+            let (n, rest) = plain_hex(digits)?;
             Some((n, rest))
         }
         None => {
@@ -528,26 +529,6 @@ fn plain_word(bytes: &[u8]) -> Option<(u64, &[u8])>
             Some((n, rest))
         }
     }
-}
-
-/// The number that the digits spell which the bytes begin with. Bytes that end with a digit have none.
-#[inline(always)]
-fn plain_digits(bytes: &[u8], radix: u32) -> Option<(u64, &[u8])>
-    requires low { 2 ≤ radix }
-    requires high { radix ≤ 36 }
-    ensures number { IfSome result (λ found. BeginsDigits radix bytes.now found.0 found.1.now) }
-    ensures small { IfSome result (λ found. found.0 < 2 ^ 64) }
-    ensures shorter { IfSome result (λ found. length found.1.now ≤ length bytes.now) }
-{
-    let mut n = 0;
-    for (i, byte) in bytes.iter().enumerate() {
-        match push_digit(n, *byte, radix) {
-            Some(more) => n = more,
-            None if i == 0 => return None,
-            None => return Some((n, &bytes[i..])),
-        }
-    }
-    None
 }
 
 /// A reply or a refusal, a blank before each of its words.

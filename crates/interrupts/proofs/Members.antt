@@ -120,3 +120,8 @@ later-from members deadline start middle e up from later k m above inside =
     get_or-drop start members (k - start) m ∙ ap (λ n. get_or members n m) back_too in
     let order : (get_or members middle e).deadline ≤ (get_or members k m).deadline = rw (← here, ← there) low in
     omega (arith, later, order)
+
+-- a member that is no later than a deadline, by the place where it stands
+pub earlier-at : (members : List Member) (deadline middle place : ℕ) (e m : Member) → place ≡ middle → middle < length members
+    → (get_or members middle e).deadline ≤ deadline → (get_or members place m).deadline ≤ deadline
+earlier-at members deadline middle place e m same inside is = rw (same, get_or_default members middle m e inside) is

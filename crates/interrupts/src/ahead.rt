@@ -136,20 +136,27 @@ fn place_of(members: &[Member], start: usize, deadline: u64) -> usize
     requires in_order { IsNonDecreasingBy (λ (m : Member). m.deadline) (drop start members.now) }
     ensures { IsPlaceOf deadline start members.now result }
 {
+    let end = members.len();
+    if start == end || members[end - 1].deadline <= deadline {
+        return end;
+    }
     let mut low = start;
-    let mut high = members.len();
-    if low < high && members[high - 1].deadline <= deadline {
-        low = high;
-    }
-    while low < high {
-        let middle = low + (high - low) / 2;
-        if deadline < members[middle].deadline {
-            high = middle;
+    let mut size = end - start;
+    while size > 1 {
+        let half = size / 2;
+        // (no branch: the processor couldn't foresee it)
+        low += if members[low + half].deadline <= deadline {
+            half
         } else {
-            low = middle + 1;
-        }
+            0
+        };
+        size -= half;
     }
-    low
+    if members[low].deadline <= deadline {
+        low + 1
+    } else {
+        low
+    }
 }
 
 /// Inserts a member at a place; there is room for it. At the end no member moves.

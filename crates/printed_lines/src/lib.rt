@@ -1,6 +1,7 @@
 //! Printed lines, except the board's table: sinks of bytes, and the text of board lines, steps and replies (profile).
 #![tactic(auto)]
 
+mod hex_text;
 mod line_text;
 mod lines;
 mod page;

@@ -1,11 +1,12 @@
 //! A line under composition, number by number and word by word.
-ghost use Rattle.std.specs.Prelude.{◌≡◌, ℕ, ◌+◌, ◌/◌, ◌%◌, ◌^◌, ◌<◌, ◌≤◌, List, [], ◌∷◌, ◌++◌, false, length, set, max, take, drop, replicate, decimal};
+ghost use Rattle.std.specs.Prelude.{◌≡◌, ℕ, ◌+◌, ◌/◌, ◌%◌, ◌^◌, ◌<◌, ◌≤◌, List, [], ◌∷◌, ◌++◌, false, length, max, take, drop, replicate, decimal};
 ghost use Rattle.std.specs.Fmt.{digit_glyph, digits, signed_decimal};
 ghost use Rattle.printed_lines.specs.Columns.{right, left, hex_column};
 ghost use Rattle.printed_lines.specs.LineText.{decimal_room, hex_column_room, hex_column_work, hex_room, page_room, signed_room, with_words};
 ghost use Rattle.printed_lines.specs.Sinks.{Puts};
 ghost use Rattle.printed_lines.specs.Words.{hex, as_line};
 
+use crate::hex_text::{hex_places, write_hex};
 use crate::sink::{Failed, Sink, write_all};
 use itoa::Buffer;
 use std::marker::Model;
@@ -253,9 +254,7 @@ impl LineText {
         ensures text { self.new ≡ self.old ++ digits 16 false n }
         ensures len { length self.new ≤ length self.old + 16 }
     {
-        let end = self.len + hex_places(n);
-        write_hex(n, &mut self.bytes, self.len, end);
-        self.len = end;
+        self.len = write_hex(n, &mut self.bytes, self.len);
     }
 }
 
@@ -321,68 +320,6 @@ fn decimal_digit(digit: u64) -> u8
     ensures { result ≡ 48 + digit }
 {
     b'0' + digit as u8
-}
-
-/// The number of hexadecimal digits of `n`.
-#[inline(always)]
-fn hex_places(n: u64) -> usize
-    ensures places { result ≡ length (digits 16 false n) }
-    ensures bound { result ≤ 16 }
-{
-    if n == 0 {
-        return 1;
-    }
-    (n.ilog2() / 4 + 1) as usize
-}
-
-/// Writes the hexadecimal digits of `n` from `start` to `end`, from the last to the first.
-#[inline(always)]
-fn write_hex(n: u64, bytes: &mut [u8], start: usize, end: usize)
-    requires places { start + length (digits 16 false n) ≡ end }
-    requires room { end ≤ length bytes.old }
-    ensures { bytes.new ≡ take start bytes.old ++ (digits 16 false n ++ drop end bytes.old) }
-{
-    let mut rest = n;
-    let mut at = end;
-    while rest >= 65_536 {
-        at -= 4;
-        write_hex_pair(rest % 256, bytes, at + 2);
-        write_hex_pair(rest / 256 % 256, bytes, at);
-        rest /= 65_536;
-    }
-    if rest < 256 {
-        write_short_hex(rest, bytes, start, at);
-    } else {
-        write_hex_pair(rest % 256, bytes, at - 2);
-        write_short_hex(rest / 256, bytes, start, at - 2);
-    }
-}
-
-/// Writes up to two hexadecimal digits from `start` to `end`.
-#[inline(always)]
-fn write_short_hex(n: u64, bytes: &mut [u8], start: usize, end: usize)
-    requires small { n < 256 }
-    requires places { start + length (digits 16 false n) ≡ end }
-    requires room { end ≤ length bytes.old }
-    ensures { bytes.new ≡ take start bytes.old ++ (digits 16 false n ++ drop end bytes.old) }
-{
-    if n >= 16 {
-        write_hex_pair(n, bytes, start);
-    } else {
-        bytes[start] = hex_digit(n);
-    }
-}
-
-/// Writes two hexadecimal digits.
-#[inline(always)]
-fn write_hex_pair(pair: u64, bytes: &mut [u8], at: usize)
-    requires { (pair < 256) × (at + 2 ≤ length bytes.old) }
-    ensures { bytes.new
-        ≡ set (set bytes.old (at + 1) (digit_glyph false (pair % 16))) at (digit_glyph false (pair / 16)) }
-{
-    let [high, low] = hex_pair(pair);
-    bytes[at + 1] = low;
-    bytes[at] = high;
 }
 
 /// The two hexadecimal digits of a number below 256.

@@ -6,7 +6,7 @@ use test_report::Unwritten;
 use test_terms::Stop;
 
 /// Why the program ends early.
-#[derive(Debug, Drop)]
+#[derive(Drop)]
 pub(crate) enum Early {
     /// The command line asks for help or the version, or has a fault of usage.
     Usage(clap::Error),

@@ -166,7 +166,9 @@ fn print_made<W: Sink>(
     let answer = board.step(actor, op);
     op_fits(op);
     answer_fits(answer);
-    page.print_step(actor, &op, answer, writer)?;
+    // (a copy to refer to: then the step's is made of registers, and the processor waits for no store)
+    let printed = op;
+    page.print_step(actor, &printed, answer, writer)?;
     Ok(Replayed::ToTheEnd {
         met_full: is_history_full(&answer),
     })

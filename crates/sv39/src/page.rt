@@ -11,6 +11,14 @@ pub const PAGE_BYTES: u64 = 4096;
 /// The number of entries of a page table; each has 8 bytes (Privileged 4.3.1).
 pub const TABLE_ENTRIES: u64 = 512;
 
+/// The level below each level, by its number. (A `match` would be a jump, another one at each level of a walk.)
+const BELOW: [Option<Level>; 4] = [
+    None,
+    Some(Level::Kilo),
+    Some(Level::Mega),
+    Some(Level::Giga),
+];
+
 /// The levels of page tables, named by the pages that their leaves map (Privileged 4.4.1, 4.5.1).
 #[derive(Clone, Copy, Debug, PartialEq, Eq)]
 pub enum Level {
@@ -53,12 +61,7 @@ impl Level {
     pub(crate) fn below(self) -> Option<Level>
         ensures { result ≡ below self }
     {
-        match self {
-            Level::Kilo => None,
-            Level::Mega => Some(Level::Kilo),
-            Level::Giga => Some(Level::Mega),
-            Level::Tera => Some(Level::Giga),
-        }
+        BELOW[self.number() as usize]
     }
 
     /// The index of an address's entry in a table of this level: the address's VPN part (Privileged 4.4.1, 4.5.1).

@@ -1,7 +1,7 @@
 //! Why an access is stale or unsteady, as text.
 use crate::records::{RecordParts, event_line};
 use crate::stuck::place_of;
-use access_causes::{AccessCause, Fencing, Held, Origin};
+use access_causes::{AccessCause, Fencing, Held, Origin, Reach};
 use board_core::{Actor, Entry, Event, HartSet};
 use diagnostics::Case;
 use guest_programs::is_guest;
@@ -9,7 +9,7 @@ use std::alloc::{AllocError, Global};
 use std::{fmt, str};
 
 /// A step of a record: its place, from 0, its line in the script, if it has one, and its text.
-#[derive(Debug, Drop)]
+#[derive(Drop)]
 struct NamedStep {
     place: usize,
     line: Option<u64>,
@@ -77,7 +77,7 @@ fn line_of(case: &Case<'_>, record: &RecordParts<'_>, place: usize) -> Option<u6
 }
 
 /// Why an access is stale or unsteady, with the texts of the steps that it names.
-#[derive(Debug, Drop)]
+#[derive(Drop)]
 pub struct ToldCause {
     cause: AccessCause,
     access: NamedStep,
@@ -119,11 +119,6 @@ impl ToldCause {
     /// The place of the access.
     pub fn place(&self) -> usize {
         self.cause.place
-    }
-
-    /// Whether a fence call missed the access.
-    pub fn is_missed(&self) -> bool {
-        self.cause.is_missed
     }
 
     /// Its lines, each behind a margin.
@@ -180,32 +175,15 @@ impl ToldCause {
             Fencing::Asked {
                 place,
                 harts,
-                waits,
+                reach,
             } => {
                 write!(f, "fenced at ")?;
                 self.write_step(f, *place)?;
                 write!(f, ", which asked ")?;
                 write_harts(f, harts)?;
-                self.write_asked(f, harts, *waits)
+                write_reach(f, self.cause.hart, *reach)
             }
             Fencing::Absent { before, next } => self.write_absent(f, *before, *next),
-        }
-    }
-
-    /// Why a fence that was asked ended nothing at the hart.
-    fn write_asked<W: fmt::Write>(
-        &self,
-        f: &mut fmt::Formatter<W>,
-        harts: &HartSet,
-        waits: bool,
-    ) -> fmt::Result {
-        let hart = self.cause.hart;
-        if hart >= 128 || !harts.contains(hart) {
-            write!(f, ", and not hart {hart}")
-        } else if waits {
-            write!(f, "; hart {hart} hasn't served it yet")
-        } else {
-            write!(f, "; hart {hart} stopped before it served it")
         }
     }
 
@@ -288,6 +266,19 @@ fn next_at(fencing: &Fencing) -> Option<usize> {
     match fencing {
         Fencing::Asked { .. } => None,
         Fencing::Absent { next, .. } => *next,
+    }
+}
+
+/// Why a fence that was asked ended nothing at a hart.
+fn write_reach<W: fmt::Write>(
+    f: &mut fmt::Formatter<W>,
+    hart: u64,
+    reach: Reach,
+) -> fmt::Result {
+    match reach {
+        Reach::NotAsked => write!(f, ", and not hart {hart}"),
+        Reach::Waits => write!(f, "; hart {hart} hasn't served it yet"),
+        Reach::Stopped => write!(f, "; hart {hart} stopped before it served it"),
     }
 }
 

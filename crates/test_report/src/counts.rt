@@ -3,7 +3,7 @@ use guest_programs::End;
 use std::fmt;
 
 /// How many orders end in each way, at most 2^128-1 of each.
-#[derive(Clone, Copy, Debug, PartialEq, Eq)]
+#[derive(Clone, Copy)]
 pub struct Counts {
     /// The power was off.
     pub off: u128,
@@ -73,7 +73,7 @@ impl fmt::Display for Counts {
 }
 
 /// A number whose digits stand in threes: `1,284`; the greatest has more behind it.
-#[derive(Clone, Copy, Debug)]
+#[derive(Clone, Copy)]
 pub(crate) struct Grouped(pub(crate) u128);
 
 impl fmt::Display for Grouped {
@@ -101,7 +101,7 @@ pub(crate) fn or_more(many: u128) -> &'static str {
 }
 
 /// The orders of a program, all of which were seen.
-#[derive(Clone, Copy, Debug)]
+#[derive(Clone, Copy)]
 pub enum AllOrders {
     /// Their number.
     Counted(Counts),

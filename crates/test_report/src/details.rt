@@ -11,7 +11,7 @@ use std::fmt::Write;
 use std::{io, str};
 
 /// A file that could not be written.
-#[derive(Debug, Drop)]
+#[derive(Drop)]
 pub struct Unwritten {
     /// Its name.
     pub path: String,
@@ -38,7 +38,7 @@ impl Unwritten {
 }
 
 /// A line of a trace whose reply isn't the board's.
-#[derive(Debug, Drop)]
+#[derive(Drop)]
 pub struct Difference {
     /// Its number, from 1.
     pub line: u64,
@@ -49,7 +49,7 @@ pub struct Difference {
 }
 
 /// A detail below a point.
-#[derive(Debug, Drop)]
+#[derive(Drop)]
 pub enum Detail {
     /// A number, with what it is.
     Number(&'static str, u64),

@@ -14,14 +14,14 @@ use std::{fmt, str};
 const MOST: usize = 8;
 
 /// What numbers an actor's operation has, and in which lines.
-#[derive(Debug, Drop)]
+#[derive(Drop)]
 struct Used {
     numbers: String,
     lines: Vec<u64>,
 }
 
 /// What an actor does of the same operation.
-#[derive(Debug, Drop)]
+#[derive(Drop)]
 struct Instead {
     actor: Option<u64>,
     does: &'static str,
@@ -29,7 +29,7 @@ struct Instead {
 }
 
 /// A step that a condition needs and no order has.
-#[derive(Debug, Drop)]
+#[derive(Drop)]
 pub struct Missing {
     /// Its text in the condition.
     pub said: String,
@@ -39,7 +39,7 @@ pub struct Missing {
 }
 
 /// The steps that orders have in its place.
-#[derive(Debug, Drop)]
+#[derive(Drop)]
 struct Others {
     /// Such a step has another reply.
     has_other_reply: bool,

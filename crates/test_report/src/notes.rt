@@ -5,7 +5,7 @@ use guest_programs::End;
 use std::fmt;
 
 /// What a stale access used.
-#[derive(Clone, Copy, Debug)]
+#[derive(Clone, Copy)]
 pub enum Stale {
     /// A translation that a walk of the page tables wouldn't give.
     Translation,
@@ -14,12 +14,14 @@ pub enum Stale {
 }
 
 /// A stale access of a line.
-#[derive(Debug, Drop)]
+#[derive(Drop)]
 pub struct StaleAccess {
     /// The line.
     pub line: u64,
     /// What it used.
     pub stale: Stale,
+    /// Whether a fence call missed it.
+    pub is_missed: bool,
     /// Why it is stale, where that is told.
     pub cause: Option<ToldCause>,
 }
@@ -33,12 +35,12 @@ impl fmt::Display for StaleAccess {
             Stale::Word => "memory has another word",
         };
         write!(f, "line {line}: stale: {why}")?;
+        if self.is_missed {
+            write!(f, "; a fence call missed it")?;
+        }
         let Some(cause) = &self.cause else {
             return Ok(());
         };
-        if cause.is_missed() {
-            write!(f, "; a fence call missed it")?;
-        }
         let lines = cause.behind("  ");
         write!(f, "\n{lines}")
     }
@@ -54,7 +56,7 @@ pub enum Given {
 }
 
 /// What a load gave last.
-#[derive(Clone, Copy, Debug)]
+#[derive(Clone, Copy)]
 pub struct LoadGave {
     /// Its hart.
     pub hart: u64,
@@ -65,7 +67,7 @@ pub struct LoadGave {
 }
 
 /// An outcome of a program: what each load gave last, how these orders end, and how many they are.
-#[derive(Debug, Drop)]
+#[derive(Drop)]
 pub struct Outcome {
     /// What the loads gave.
     pub loads: Vec<LoadGave>,
@@ -78,7 +80,7 @@ pub struct Outcome {
 }
 
 /// A note about a file.
-#[derive(Debug, Drop)]
+#[derive(Drop)]
 pub enum Note {
     /// The patterns of the condition of a line met no step.
     NeverMet(u64),

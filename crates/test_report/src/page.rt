@@ -17,7 +17,7 @@ use std::fmt::Write;
 const VERSION: u64 = 13;
 
 /// How a report is shown.
-#[derive(Clone, Copy, Debug, PartialEq, Eq)]
+#[derive(Clone, Copy, PartialEq, Eq)]
 pub enum Style {
     /// As points of the Test Anything Protocol.
     Tap,

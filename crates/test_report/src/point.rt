@@ -12,7 +12,7 @@ use outcome_statistics::asks_of_ends;
 use std::alloc::{AllocError, Global};
 
 /// A point: its subject and its verdict.
-#[derive(Debug, Drop)]
+#[derive(Drop)]
 pub struct Point {
     /// Its subject.
     pub name: String,

@@ -13,7 +13,7 @@ use outcome_statistics::Ends;
 use std::alloc::{AllocError, Global};
 
 /// What to do with the files.
-#[derive(Clone, Copy, Debug, PartialEq, Eq)]
+#[derive(Clone, Copy, PartialEq, Eq)]
 pub enum Mode {
     /// Test them: by all orders if states are few, otherwise by some.
     Test,
@@ -22,7 +22,7 @@ pub enum Mode {
 }
 
 /// The report about a file.
-#[derive(Debug, Drop)]
+#[derive(Drop)]
 pub struct FileReport {
     /// The notes before the first point.
     pub head: Vec<Note>,
@@ -118,7 +118,7 @@ impl FileReport {
 }
 
 /// The report about all files.
-#[derive(Debug, Drop)]
+#[derive(Drop)]
 pub struct Report {
     /// Whether they were tested or explored.
     pub mode: Mode,

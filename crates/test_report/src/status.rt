@@ -8,7 +8,7 @@ use crate::report::FileReport;
 use crate::verdict::Verdict;
 
 /// The verdict on all points together.
-#[derive(Clone, Copy, Debug, PartialEq, Eq)]
+#[derive(Clone, Copy)]
 pub enum Status {
     /// Each holds.
     AllHold,

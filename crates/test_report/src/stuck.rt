@@ -8,7 +8,7 @@ use std::alloc::{AllocError, Global};
 use std::fmt;
 
 /// A hart that can't go on: the line that it stands at, and what could wake it.
-#[derive(Debug, Drop)]
+#[derive(Drop)]
 pub struct StuckHart {
     hart: u64,
     line: u64,
@@ -40,7 +40,7 @@ impl fmt::Display for StuckHart {
 }
 
 /// How far the guest of a hart is: the address of its last entry, and how many operations it did since.
-#[derive(Clone, Copy, Debug)]
+#[derive(Clone, Copy)]
 pub(crate) struct Place {
     pub(crate) addr: u64,
     pub(crate) done: u64,

@@ -6,7 +6,7 @@ use std::alloc::AllocError;
 use std::fmt::Write;
 
 /// The summary of all files.
-#[derive(Clone, Copy, Debug)]
+#[derive(Clone, Copy)]
 pub(crate) struct Summary {
     mode: Mode,
     files: u64,

@@ -8,7 +8,7 @@ use conditions::{Item, Misfit, Name};
 use std::{fmt, str};
 
 /// Why something wasn't judged.
-#[derive(Clone, Copy, Debug, PartialEq, Eq)]
+#[derive(Clone, Copy)]
 pub enum Unjudged {
     /// The time was over.
     NoTime,
@@ -44,7 +44,7 @@ impl fmt::Display for Unjudged {
 }
 
 /// The verdict of a point.
-#[derive(Debug, Drop)]
+#[derive(Drop)]
 pub enum Verdict {
     /// It holds.
     Holds,
@@ -74,7 +74,7 @@ impl Verdict {
 }
 
 /// How far `test` looked.
-#[derive(Clone, Copy, Debug)]
+#[derive(Clone, Copy)]
 pub enum Extent {
     /// At the file itself: its lines, or its fault.
     Lines,

@@ -1,14 +1,19 @@
 //! A board that does the lines of a schedule or a trace.
+ghost use Rattle.std.specs.Prelude.{◌≡◌};
 ghost use Rattle.board_terms.specs.Limits.{IsGood};
 
 use crate::stale::Expected;
-use board_core::{Board, Config, Event, Refusal, Reply};
+use board_core::{Board, Config, Event, Op, Refusal, Reply};
 use guest_script::{Doing, KeptLine};
 use std::alloc::{AllocError, Global};
 use test_report::{RecordParts, Stale};
 
+/// The most events of a record whose stale lines say whether a fence call missed them: marks take time by the square of a hart's
+/// fences (profile).
+const MOST_MARKED: usize = 10_000;
+
 /// What is odd about a line.
-#[derive(Clone, Copy, Debug)]
+#[derive(Clone, Copy)]
 pub(crate) enum Odd {
     /// The step of this line was refused, by this number.
     Refused(u64, u64),
@@ -90,8 +95,19 @@ impl Course {
         Ok(events)
     }
 
+    /// Whether a fence call can have missed an access of these events, which aren't too many to mark: one was stale, and a hart's
+    /// call has ended.
+    pub(crate) fn can_have_missed(&self, events: &[Event]) -> bool {
+        let has_stale = self.odd.iter().any(|odd| matches!(odd, Odd::Stale { .. }));
+        has_stale
+            && events.len() <= MOST_MARKED
+            && events.iter().any(|event| matches!(event.op(), Op::Poll))
+    }
+
     /// The record, whose events these are.
-    pub(crate) fn record<'a>(&'a self, events: &'a [Event]) -> RecordParts<'a> {
+    pub(crate) fn record<'a>(&'a self, events: &'a [Event]) -> RecordParts<'a>
+        ensures { result.events.now ≡ events.now }
+    {
         RecordParts {
             board: &self.board,
             segments: &self.segments,

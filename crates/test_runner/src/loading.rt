@@ -23,7 +23,7 @@ pub(crate) struct Loaded {
 }
 
 /// Why nothing was loaded.
-#[derive(Debug, Drop)]
+#[derive(Drop)]
 pub(crate) enum Unloaded {
     /// The file can't be tested: the text behind its name, with the place if there is one, and the fault.
     File(String),

@@ -1,32 +1,29 @@
 //! Conditions that ask of marks, judged on the record of a schedule or a trace.
-ghost use Rattle.std.specs.Prelude.{◌≡◌, IfSome, length};
-ghost use Rattle.board_terms.specs.Limits.{IsGood};
+ghost use Rattle.std.specs.Prelude.{◌≡◌, IfOk, IfSome, length};
 
+use access_causes::with_room;
 use access_marks::{Marks, marks_of};
 use board_core::{Config, Event};
-use conditions::{Condition, Rule, first_misfit_with};
+use conditions::{Rule, first_misfit_with};
 use marked_conditions::{asks_of_marks, failing_step_with, has_telling, holds_with};
-use outcome_statistics::{ask_of_marks, failing_step, is_met, meets};
+use outcome_statistics::{failing_step, is_met, meets};
 use std::alloc::{AllocError, Global};
 use test_report::{Unjudged, Verdict};
 
-/// The most events that a record with marks can have: those of a history (profile).
-const MOST_EVENTS: u64 = 1_000_000;
-
-/// The marks of a record's events, if a condition asks of them, and the record isn't longer than a history can be.
+/// The marks of a record's events, if they are asked for, and the record isn't longer than a history can be.
 ///
 /// # Errors
 ///
 /// Out of memory.
-pub(crate) fn marks_asked(
+pub(crate) fn marks_if(
     alloc: Global,
-    conditions: &[Condition],
+    are_asked: bool,
     config: &Config,
     events: &[Event],
 ) -> Result<Option<Vec<Marks>>, AllocError>
-    requires { IsGood config.now }
+    ensures { IfOk result (λ found. IfSome found (λ marks. length marks.items ≡ length events.now)) }
 {
-    if !ask_of_marks(conditions) {
+    if !are_asked {
         return Ok(None);
     }
     match with_room(config, events.len() as u64) {
@@ -35,26 +32,15 @@ pub(crate) fn marks_asked(
     }
 }
 
-/// The same board with a history of so many events, in which a record with cuts has room.
-fn with_room(config: &Config, events: u64) -> Option<Config>
-    requires { IsGood config.now }
-    ensures { IfSome result IsGood }
-{
-    if events > MOST_EVENTS {
-        return None;
-    }
-    let mut roomy = *config;
-    roomy.limit = events.max(1);
-    Some(roomy)
-}
-
 /// The verdict of a condition on a record, which has these marks if some condition asks of them.
 pub(crate) fn judged(
     rule: &Rule,
     harts: u64,
     events: &[Event],
     marks: &Option<Vec<Marks>>,
-) -> Verdict {
+) -> Verdict
+    requires { IfSome marks.now (λ marks. length marks.items ≡ length events.now) }
+{
     if let Some(misfit) = first_misfit_with(rule, harts) {
         return Verdict::Misfit(misfit);
     }
@@ -62,10 +48,8 @@ pub(crate) fn judged(
         return Verdict::of(meets(rule, events, &[], None));
     }
     match marks {
-        Some(marks) if marks.len() == events.len() => {
-            Verdict::of(holds_with(rule, events, marks, None))
-        }
-        _ => Verdict::NotJudged(Unjudged::NoMarks),
+        Some(marks) => Verdict::of(holds_with(rule, events, marks, None)),
+        None => Verdict::NotJudged(Unjudged::NoMarks),
     }
 }
 
@@ -74,21 +58,21 @@ pub(crate) fn failing_place(
     rule: &Rule,
     events: &[Event],
     marks: &Option<Vec<Marks>>,
-) -> Option<usize> {
+) -> Option<usize>
+    requires { IfSome marks.now (λ marks. length marks.items ≡ length events.now) }
+{
     match marks {
-        Some(marks) if asks_of_marks(rule) && marks.len() == events.len() => {
-            failing_step_with(rule, events, marks)
-        }
+        Some(marks) if asks_of_marks(rule) => failing_step_with(rule, events, marks),
         _ => failing_step(Some(rule), events),
     }
 }
 
 /// Whether each pattern of a condition has a step in a record. Of a mark only a step counts of which it tells something.
-pub(crate) fn is_met_by(rule: &Rule, events: &[Event], marks: &Option<Vec<Marks>>) -> bool {
+pub(crate) fn is_met_by(rule: &Rule, events: &[Event], marks: &Option<Vec<Marks>>) -> bool
+    requires { IfSome marks.now (λ marks. length marks.items ≡ length events.now) }
+{
     match marks {
-        Some(marks) if asks_of_marks(rule) && marks.len() == events.len() => {
-            is_met_with(rule, events, marks)
-        }
+        Some(marks) if asks_of_marks(rule) => is_met_with(rule, events, marks),
         _ => is_met(rule, events),
     }
 }

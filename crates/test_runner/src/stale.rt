@@ -1,9 +1,10 @@
 //! Stale accesses: those that used a translation or a word that a walk, or memory, no longer gives.
 use board_core::{Actor, Board, Cause, Event, Kind, Leaf, Op, Reply};
+use board_rules::access_of;
 use test_report::Stale;
 
 /// What a walk would give for an access, on the board before it.
-#[derive(Clone, Copy, Debug)]
+#[derive(Clone, Copy)]
 pub(crate) struct Expected {
     kind: Kind,
     walked: Result<Leaf, Cause>,
@@ -15,19 +16,11 @@ impl Expected {
         let Actor::Hart(h) = actor else {
             return None;
         };
-        let (va, kind) = match op {
-            Op::Load(va) => (va, Kind::Load),
-            Op::Store(va, _) => (va, Kind::Store),
-            Op::Fetch(va) => (va, Kind::Fetch),
-            Op::Amo(at, amo) => (
-                amo.word_at(at),
-                if amo.reads() { Kind::Amo } else { Kind::Store },
-            ),
-            _ => return None,
-        };
+        let (va, access) = access_of(op)?;
         if h >= board.config().harts {
             return None;
         }
+        let kind = access.kind();
         let walked = board.walk(h, va, kind);
         Some(Expected { kind, walked })
     }

@@ -1,17 +1,20 @@
 //! Replays schedules, and compares traces.
+ghost use Rattle.std.specs.Prelude.{◌≡◌, IfSome, length};
+
 use crate::course::{Course, Odd};
-use crate::marked::{failing_place, is_met_by, judged, marks_asked};
+use crate::marked::{failing_place, is_met_by, judged, marks_if};
 use access_marks::Marks;
+use board_core::Event;
 use conditions::{Condition, Rule};
 use diagnostics::Walk;
 use guest_programs::new_board;
 use guest_script::{Body, Lines};
+use outcome_statistics::ask_of_marks;
 use std::alloc::AllocError;
 use std::rt::Files;
 use std::str;
 use test_report::{
-    Detail, Difference, FileReport, Note, Point, RecordParts, StaleAccess, ToldCause, Verdict,
-    named, step_line,
+    Detail, Difference, FileReport, Note, Point, StaleAccess, ToldCause, Verdict, named, step_line,
 };
 use test_terms::{Stop, Trial, keep, put_causes, told_causes};
 
@@ -29,11 +32,38 @@ pub(crate) fn test_steps<R: AllocGlobal + Files>(trial: &Trial<'_, R>) -> Result
         Body::Empty | Body::Program { .. } => {}
     }
     let events = course.events(alloc)?;
-    let marks = marks_asked(alloc, trial.case.conditions, course.config(), &events)?;
-    for condition in trial.case.conditions {
-        judge(trial, condition, course.record(&events), &marks, &mut file)?;
-    }
+    judge_record(trial, &course, &events, &mut file)?;
     Ok(file)
+}
+
+/// Notes what is odd about the lines of a record of these events, and judges it by each condition.
+fn judge_record<R: AllocGlobal + Files>(
+    trial: &Trial<'_, R>,
+    course: &Course,
+    events: &[Event],
+    file: &mut FileReport,
+) -> Result<(), AllocError> {
+    let alloc = trial.rt.alloc();
+    let are_asked = ask_of_marks(trial.case.conditions) || course.can_have_missed(events);
+    let marks = marks_if(alloc, are_asked, course.config(), events)?;
+    note_lines(trial, course, events, &marks, file)?;
+    judge_all(trial, course, events, &marks, file)
+}
+
+/// Judges a schedule or a trace, whose record has these events, by each condition.
+fn judge_all<R: AllocGlobal + Files>(
+    trial: &Trial<'_, R>,
+    course: &Course,
+    events: &[Event],
+    marks: &Option<Vec<Marks>>,
+    file: &mut FileReport,
+) -> Result<(), AllocError>
+    requires { IfSome marks.now (λ marks. length marks.items ≡ length events.now) }
+{
+    for condition in trial.case.conditions {
+        judge(trial, condition, course, events, marks, file)?;
+    }
+    Ok(())
 }
 
 /// Does each step of a schedule, also after refusals. Without conditions the schedule is the point.
@@ -53,7 +83,7 @@ fn replay<R: AllocGlobal>(
     if trial.case.conditions.is_empty() {
         file.push(point_of_lines(trial, lines, Verdict::Holds)?)?;
     }
-    note_lines(trial, &*course, file)
+    Ok(())
 }
 
 /// Compares each line of a trace with the board's own answer, goes on with that, and reports all lines that differ.
@@ -85,28 +115,40 @@ fn compare<R: AllocGlobal>(
         point.details.push(Detail::Lines(differences))?;
     }
     file.push(point)?;
-    note_lines(trial, &*course, file)
+    Ok(())
 }
 
-/// Notes what is odd about lines.
+/// Notes what is odd about lines. The record of these events has these marks, where its marks are told.
 fn note_lines<R: AllocGlobal>(
     trial: &Trial<'_, R>,
     course: &Course,
+    events: &[Event],
+    marks: &Option<Vec<Marks>>,
     file: &mut FileReport,
 ) -> Result<(), AllocError> {
-    let mut causes = stale_causes(trial, course)?;
+    let mut causes = stale_causes(trial, course, events)?;
     causes.reverse();
     for odd in course.odd.iter() {
         let note = match *odd {
             Odd::Refused(line, refusal) => Note::Refused(line, refusal),
-            Odd::Stale { line, place, stale } => {
-                let cause = take_cause(&mut causes, place);
-                Note::Stale(StaleAccess { line, stale, cause })
-            }
+            Odd::Stale { line, place, stale } => Note::Stale(StaleAccess {
+                line,
+                stale,
+                is_missed: is_missed(marks, place),
+                cause: take_cause(&mut causes, place),
+            }),
         };
         file.note(note)?;
     }
     Ok(())
+}
+
+/// Whether the event in a place has the mark `missed`.
+fn is_missed(marks: &Option<Vec<Marks>>, place: usize) -> bool {
+    match marks {
+        Some(marks) => marks.get(place).is_some_and(|marks| marks.missed),
+        None => false,
+    }
 }
 
 /// Takes the last of these causes, if it is of the access in this place.
@@ -119,9 +161,9 @@ fn take_cause(causes: &mut Vec<ToldCause>, place: usize) -> Option<ToldCause> {
 fn stale_causes<R: AllocGlobal>(
     trial: &Trial<'_, R>,
     course: &Course,
+    events: &[Event],
 ) -> Result<Vec<ToldCause>, AllocError> {
-    let alloc = trial.rt.alloc();
-    let mut places = Vec::new(alloc);
+    let mut places = Vec::new(trial.rt.alloc());
     for odd in course.odd.iter() {
         if let Odd::Stale { place, .. } = odd
             && places.len() < MOST_CAUSES
@@ -129,11 +171,7 @@ fn stale_causes<R: AllocGlobal>(
             places.push(*place)?;
         }
     }
-    if places.is_empty() {
-        return Ok(Vec::new(alloc));
-    }
-    let events = course.events(alloc)?;
-    told_causes(trial, course.record(&events), &places)
+    told_causes(trial, course.record(events), &places)
 }
 
 /// The point of a schedule's or a trace's lines.
@@ -149,17 +187,20 @@ fn point_of_lines<R: AllocGlobal>(
     Ok(Point::new(alloc, name, verdict))
 }
 
-/// Judges the record of a schedule or of a trace by a condition.
+/// Judges a schedule or a trace, whose record has these events, by a condition.
 fn judge<R: AllocGlobal + Files>(
     trial: &Trial<'_, R>,
     condition: &Condition,
-    record: RecordParts<'_>,
+    course: &Course,
+    events: &[Event],
     marks: &Option<Vec<Marks>>,
     file: &mut FileReport,
-) -> Result<(), AllocError> {
+) -> Result<(), AllocError>
+    requires { IfSome marks.now (λ marks. length marks.items ≡ length events.now) }
+{
     let alloc = trial.rt.alloc();
     let rule = &condition.rule;
-    let verdict = judged(rule, trial.script.config.harts, record.events, marks);
+    let verdict = judged(rule, trial.script.config.harts, events, marks);
     let is_failing = matches!(verdict, Verdict::Fails);
     let is_misfit = matches!(verdict, Verdict::Misfit(_));
     let name = named(alloc, &trial.case, Some(condition), "")?;
@@ -169,14 +210,15 @@ fn judge<R: AllocGlobal + Files>(
             .details
             .push(Detail::Reason("only a program has an end"))?;
     } else if is_failing {
-        let place = failing_place(rule, record.events, marks);
+        let place = failing_place(rule, events, marks);
+        let record = course.record(events);
         keep(trial, "failed", record, place, &mut point.details)?;
         if let Some(marks) = marks {
             put_causes(trial, rule, record, marks, &mut point.details)?;
         }
     }
     file.push(point)?;
-    if !is_misfit && !is_met_by(rule, record.events, marks) {
+    if !is_misfit && !is_met_by(rule, events, marks) {
         file.note(Note::NeverMet(condition.line))?;
     }
     Ok(())

@@ -10,7 +10,7 @@ use marked_conditions::{failing_step_with, first_with, mark_of};
 use std::alloc::{AllocError, Global};
 use test_report::{Detail, RecordParts, ToldCause};
 
-/// Adds why accesses of a record have the marks with which it fails a condition. The record has these marks.
+/// Adds why accesses of a record have the marks with which it fails a condition. The record's events have these marks.
 ///
 /// # Errors
 ///
@@ -21,10 +21,9 @@ pub fn put_causes<R: AllocGlobal>(
     record: RecordParts<'_>,
     marks: &[Marks],
     details: &mut Vec<Detail>,
-) -> Result<(), AllocError> {
-    if marks.len() != record.events.len() {
-        return Ok(());
-    }
+) -> Result<(), AllocError>
+    requires { length record.events.now ≡ length marks.now }
+{
     let places = marked_places(trial.rt.alloc(), rule, record.events, marks)?;
     let causes = told_causes(trial, record, &places)?;
     if !causes.is_empty() {

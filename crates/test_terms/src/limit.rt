@@ -6,7 +6,7 @@ use std::rt::Clock;
 use std::time::Instant;
 
 /// How long orders are tried.
-#[derive(Clone, Copy, Debug)]
+#[derive(Clone, Copy)]
 pub struct Limit {
     /// When it began.
     pub begun: Instant,

@@ -3,7 +3,7 @@ use crate::limit::Limit;
 use test_report::Mode;
 
 /// Which outputs are terminals.
-#[derive(Clone, Copy, Debug)]
+#[derive(Clone, Copy)]
 pub struct Screen {
     /// Standard output is a terminal: points are printed as plain text.
     pub is_read: bool,
@@ -12,7 +12,7 @@ pub struct Screen {
 }
 
 /// Which orders of a seed are tried.
-#[derive(Clone, Copy, Debug, PartialEq, Eq)]
+#[derive(Clone, Copy)]
 pub enum Orders {
     /// The first of them, this many.
     First(u64),
@@ -21,7 +21,7 @@ pub enum Orders {
 }
 
 /// The options of a test (profile).
-#[derive(Debug, Drop)]
+#[derive(Drop)]
 pub struct Options<'a> {
     /// Whether to test or to explore.
     pub mode: Mode,

@@ -5,7 +5,7 @@ use std::io;
 use test_report::Unwritten;
 
 /// Why the files were not all tested.
-#[derive(Debug, Drop)]
+#[derive(Drop)]
 pub enum Stop {
     /// Memory was refused.
     NoMemory,

@@ -3,7 +3,7 @@ use Rattle.std.proofs.Common.{◌≡◌, Bool, true, false, cond, not, ◌&&◌,
 use Rattle.std.specs.Prelude.{filter, reverse}
 use Rattle.std.specs.List.{All}
 use Rattle.tlb_model.specs.declared.cache.Numbered.{Numbered}
-use Rattle.tlb_model.specs.Contents.{Contents, fenced}
+use Rattle.tlb_model.specs.Contents.{Contents, cleared, fenced}
 use Rattle.std.proofs.lemmas.List.{append-nil, reverse-append}
 use Rattle.std.proofs.lemmas.List.Elements.{All-head, All-tail, filter-append}
 
@@ -43,3 +43,12 @@ fenced-none {E} covers flush cache none = ap (λ (live : List (Numbered E)). rec
     kept : (fills : List (Numbered E)) → filter (λ (fill : Numbered E). not (covers flush fill.item)) fills ≡ fills
     kept [] = refl
     kept (fill ∷ fills) = rw (none fill.item) (ap (λ (others : List (Numbered E)). fill ∷ others) (kept fills))
+
+-- a fence that covers all that a cache can hold clears it
+pub fenced-all : {E F : Type 0} (covers : F → E → Bool) (flush : F) (cache : Contents E) → ((item : E) → covers flush item ≡ true)
+    → cleared cache ≡ fenced covers cache flush
+fenced-all {E} covers flush cache all = ap (λ (live : List (Numbered E)). record cache { live = live }) (none cache.live)
+  where
+    none : (fills : List (Numbered E)) → [] ≡ filter (λ (fill : Numbered E). not (covers flush fill.item)) fills
+    none [] = refl
+    none (fill ∷ fills) = rw (all fill.item) (none fills)

@@ -1,5 +1,8 @@
 pub mod Filters
 pub mod Places
+pub mod Marks
+pub mod Fencing
+pub mod Lookups
 pub mod KeptRights
 pub mod Living
 pub mod Meeting

@@ -1,11 +1,12 @@
 //! A cache of a hart: the latest fills, in their order.
-ghost use Rattle.std.specs.Prelude.{◌≡◌, ◌-◌, ◌/◌, ◌%◌, ◌<◌, ◌≤◌, ◌^◌, ℕ, Bool, Ok, find, length, reverse};
+ghost use Rattle.std.specs.Prelude.{◌≡◌, ◌-◌, ◌<◌, ◌≤◌, ◌^◌, ℕ, Bool, true, Ok, Option, Some, length, reverse};
 ghost use Rattle.std.specs.Int.{bit_at};
 ghost use Rattle.tlb_model.specs.Contents.{cleared, empty, fenced, filled, hit};
-ghost use Rattle.tlb_model.specs.Inside.Places.{marked};
+ghost use Rattle.tlb_model.specs.Inside.Tags.{Suits};
 
 use crate::fence::Flush;
 use crate::live::Live;
+use crate::tag::{newest_first, suspects, with_tag};
 use arrayvec::ArrayVec;
 use std::alloc::AllocError;
 use std::marker::Model;
@@ -21,6 +22,12 @@ pub trait Cached: Copy + Default + Drop {
 
     ghost covers: { Flush → Self → Bool };
 
+    ghost tag: { Self → ℕ };
+
+    ghost key_tag: { Self.Key → ℕ };
+
+    ghost flush_tag: { Flush → Option ℕ };
+
     /// Whether the item matches the key.
     fn holds(&self, key: Self::Key) -> bool
         ensures { result ≡ holds key self.now };
@@ -28,6 +35,23 @@ pub trait Cached: Copy + Default + Drop {
     /// Whether the fence covers the item, and so drops it.
     fn is_covered_by(&self, flush: Flush) -> bool
         ensures { result ≡ covers flush self.now };
+
+    /// A byte that the item has in common with each key that it matches, or `ANY`.
+    fn tag(&self) -> u8
+        ensures { result ≡ tag self.now };
+
+    /// The tag that the items that match the key have, unless theirs is `ANY`.
+    fn key_tag(key: Self::Key) -> u8
+        ensures { result ≡ key_tag key };
+
+    /// The same for the items that the fence covers. None: they may have any tag.
+    fn flush_tag(flush: Flush) -> Option<u8>
+        ensures { result ≡ flush_tag flush };
+
+    ghost held: { (key : Self.Key) (item : Self) → holds key item ≡ true → Suits (tag item) (key_tag key) };
+
+    ghost covered: { (flush : Flush) (item : Self) → covers flush item ≡ true
+        → (wanted : ℕ) → flush_tag flush ≡ Some wanted → Suits (tag item) wanted };
 }
 
 /// An item of a cache, with the date and number of its fill.
@@ -44,25 +68,26 @@ pub struct Numbered<E> {
 /// A cache of a hart: its live fills, in 16 places (profile). Fill n stays in place n mod 16 until fill n + 16. A fence
 /// moves no fill.
 #[derive(Debug, Drop)]
-pub struct Cache<E> {
+pub struct Cache<E: Cached> {
     next: u64,
     // (a bit for each place)
     dropped: u16,
+    // (apart from the places, because a look-up compares all of them at once)
+    tags: [u8; 16],
     places: ArrayVec<E, 16>,
-    // (apart from the places, because a look-up scans only those)
     dates: [u64; 16],
 }
 
-impl<E> Model for Cache<E> {
+impl<E: Cached> Model for Cache<E> {
     ghost use Rattle.std.specs.Prelude.{◌≡◌, length, min};
     ghost use Rattle.tlb_model.specs.Contents.{Contents};
-    ghost use Rattle.tlb_model.specs.Inside.Places.{seen};
+    ghost use Rattle.tlb_model.specs.Inside.Places.{AreTagged, seen};
 
     ghost Value = { Contents E };
 
     ghost view = { λ c. record { next = c.next; live = seen c.next 16 c.places.items c.dates c.dropped } };
 
-    ghost invariant = { λ c. length c.places.items ≡ min 16 c.next };
+    ghost invariant = { λ c. (length c.places.items ≡ min 16 c.next) × AreTagged E.tag c.places.items c.tags };
 }
 
 impl<E: Cached> Cache<E> {
@@ -73,6 +98,7 @@ impl<E: Cached> Cache<E> {
         Cache {
             next: 0,
             dropped: 0,
+            tags: [0; 16],
             places: ArrayVec::new(),
             dates: [0; 16],
         }
@@ -83,27 +109,18 @@ impl<E: Cached> Cache<E> {
     pub fn lookup(&self, key: E::Key) -> Option<E>
         ensures { result ≡ hit E.holds key self.now }
     {
-        // (the usual case: no fence dropped an item)
-        if self.dropped != 0 {
-            return self.latest_kept(key);
-        }
-        let (newer, older) = self.places.split_at((self.next % 16) as usize);
-        match latest(newer, key) {
-            Some(item) => Some(item),
-            None => latest(older, key),
-        }
-    }
-
-    /// The look-up if some items are dropped.
-    fn latest_kept(&self, key: E::Key) -> Option<E>
-        ensures { result ≡ hit E.holds key self.now }
-    {
         let kept = kept_places(self.places.len() as u64, self.dropped);
-        let newer = kept % (1 << (self.next % 16));
-        match latest_at(&self.places, newer, key) {
-            Some(item) => Some(item),
-            None => latest_at(&self.places, kept - newer, key),
+        let mut left = newest_first(kept & with_tag(&self.tags, E::key_tag(key)), self.next);
+        while left != 0 {
+            let bit = 31 - left.leading_zeros();
+            left &= !(1 << bit);
+            let place = (self.next % 16 + u64::from(bit)) % 16;
+            let item = &self.places[place as usize];
+            if item.holds(key) {
+                return Some(*item);
+            }
         }
+        None
     }
 
     /// Fills an item, with this date. It replaces the item filled sixteen fills before (profile).
@@ -117,6 +134,7 @@ impl<E: Cached> Cache<E> {
         } else {
             self.places.push(item);
         }
+        self.tags[place as usize] = item.tag();
         self.dates[place as usize] = date;
         self.dropped &= !(1 << place);
         self.next += 1;
@@ -126,14 +144,15 @@ impl<E: Cached> Cache<E> {
     pub fn apply(&mut self, flush: Flush)
         ensures { self.new ≡ fenced E.covers self.old flush }
     {
-        let mut left = kept_places(self.places.len() as u64, self.dropped);
+        let kept = kept_places(self.places.len() as u64, self.dropped);
+        let mut left = kept & suspects(&self.tags, E::flush_tag(flush));
         let mut dropped = self.dropped;
         while left != 0 {
             let place = left.trailing_zeros();
             left &= !(1 << place);
-            if self.places[place as usize].is_covered_by(flush) {
-                dropped |= 1 << place;
-            }
+            let is_covered = self.places[place as usize].is_covered_by(flush);
+            // (no branch, since it would depend on each item)
+            dropped |= u16::from(is_covered) << place;
         }
         self.dropped = dropped;
     }
@@ -164,6 +183,7 @@ impl<E: Cached> Cache<E> {
         Ok(Cache {
             next: self.next,
             dropped: self.dropped,
+            tags: self.tags,
             places,
             dates: self.dates,
         })
@@ -175,6 +195,7 @@ impl<E: Cached> Cache<E> {
     {
         self.next = from.next;
         self.dropped = from.dropped;
+        self.tags = from.tags;
         self.places.clear();
         let Ok(()) = self.places.try_extend_from_slice(&from.places) else {
             unreachable!()
@@ -196,34 +217,8 @@ impl<E: Cached> Cache<E> {
 fn kept_places(places: u64, dropped: u16) -> u32
     requires { places ≤ 16 }
     ensures within { result < 2 ^ places }
+    ensures few { result < 2 ^ 16 }
     ensures kept { (place : ℕ) → place < places → bit_at result place ≡ 1 - bit_at dropped place }
 {
     u32::from(!dropped) % (1 << places)
-}
-
-/// The last item that matches the key, at a place whose bit is set in `marks`.
-#[inline(always)]
-fn latest_at<E: Cached>(places: &[E], marks: u32, key: E::Key) -> Option<E>
-    requires few { length places.now ≤ 16 }
-    requires within { marks < 2 ^ length places.now }
-    ensures { result ≡ find (E.holds key) (marked (length places.now) places.now marks) }
-{
-    let mut left = marks;
-    while left != 0 {
-        let place = 31 - left.leading_zeros();
-        left &= !(1 << place);
-        let item = &places[place as usize];
-        if item.holds(key) {
-            return Some(*item);
-        }
-    }
-    None
-}
-
-/// The last item that matches the key.
-#[inline(always)]
-fn latest<E: Cached>(items: &[E], key: E::Key) -> Option<E>
-    ensures { result ≡ find (E.holds key) (reverse items.now) }
-{
-    items.iter().rev().find(|item| item.holds(key)).copied()
 }

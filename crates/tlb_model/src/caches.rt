@@ -1,12 +1,12 @@
 //! The two caches of a hart.
-ghost use Rattle.std.specs.Prelude.{◌≡◌, Ok};
+ghost use Rattle.std.specs.Prelude.{◌≡◌, ◌&&◌, Ok, is_none};
 ghost use Rattle.tlb_model.specs.Contents.{cleared, empty, fenced};
 ghost use Rattle.tlb_model.specs.Entries.{covers_entry};
 ghost use Rattle.tlb_model.specs.Words.{covers_word};
 
 use crate::cache::Cache;
 use crate::entry::Entry;
-use crate::fence::Flush;
+use crate::fence::{Fence, Flush};
 use crate::word::FetchWord;
 use std::alloc::AllocError;
 
@@ -43,8 +43,14 @@ impl Caches {
         ensures words { self.new.words ≡ fenced covers_word self.old.words flush }
     {
         match flush {
-            Flush::Words => self.words.apply(flush),
-            Flush::Entries(_) => self.tlb.apply(flush),
+            Flush::Words => self.words.clear(),
+            Flush::Entries(fence) => {
+                if covers_all(fence) {
+                    self.tlb.clear();
+                } else {
+                    self.tlb.apply(flush);
+                }
+            }
         }
     }
 
@@ -75,4 +81,11 @@ impl Caches {
         self.tlb.clear();
         self.words.clear();
     }
+}
+
+/// Whether the fence covers every translation: those of all addresses in all address spaces.
+fn covers_all(fence: Fence) -> bool
+    ensures { result ≡ (is_none fence.asid && is_none fence.range) }
+{
+    fence.asid.is_none() && fence.range.is_none()
 }

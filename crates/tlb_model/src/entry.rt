@@ -2,10 +2,13 @@
 ghost use Rattle.std.specs.Prelude.{◌≡◌};
 ghost use Rattle.sv39.specs.Leaves.{allows};
 ghost use Rattle.tlb_model.specs.Entries.{covers_entry, is_in_space, matches, reaches};
+ghost use Rattle.tlb_model.specs.Inside.ItemTags.{address_tag, entry_tag, fence_tag, page_tag, range_tag};
+ghost use Rattle.tlb_model.specs.Inside.TagLaws.{entry_covered, entry_held};
 
 use crate::cache::Cached;
 use crate::fence::{Flush, Range};
 use crate::rights::{D, R, W, X, has, is_global, leaf_in, rights_of};
+use crate::tag::ANY;
 use std::fmt;
 use std::marker::Model;
 use sv39::{Kind, Leaf, Level};
@@ -87,6 +90,16 @@ impl Cached for Entry {
 
     ghost covers = { covers_entry };
 
+    ghost tag = { entry_tag };
+
+    ghost key_tag = { address_tag };
+
+    ghost flush_tag = { fence_tag };
+
+    ghost held = { entry_held };
+
+    ghost covered = { entry_covered };
+
     fn holds(&self, at: Address) -> bool {
         let is_in_page = self.page <= at.va && at.va - self.page < self.level.size();
         is_in_page && (is_global(self.rights) || self.asid == at.asid)
@@ -99,6 +112,47 @@ impl Cached for Entry {
                 self.is_in_space(fence.asid) && self.is_reached_by(fence.range)
             }
         }
+    }
+
+    fn tag(&self) -> u8 {
+        match self.level {
+            Level::Kilo => {
+                if self.page % 4096 == 0 {
+                    page_tag(self.page)
+                } else {
+                    ANY
+                }
+            }
+            Level::Mega | Level::Giga | Level::Tera => ANY,
+        }
+    }
+
+    fn key_tag(at: Address) -> u8 {
+        page_tag(at.va)
+    }
+
+    fn flush_tag(flush: Flush) -> Option<u8> {
+        match flush {
+            Flush::Words => None,
+            Flush::Entries(fence) => range_tag(fence.range),
+        }
+    }
+}
+
+/// The low byte of the number of a page of 4 KiB.
+fn page_tag(va: u64) -> u8
+    ensures { result ≡ page_tag va }
+{
+    (va / 4096 % 256) as u8
+}
+
+/// That of the page of 4 KiB in which the range lies, if it lies in one.
+fn range_tag(range: Option<Range>) -> Option<u8>
+    ensures { result ≡ range_tag range }
+{
+    match range {
+        Some(range) if range.size <= 4096 - range.start % 4096 => Some(page_tag(range.start)),
+        _ => None,
     }
 }
 

@@ -9,6 +9,7 @@ mod fence;
 mod laws;
 mod live;
 mod rights;
+mod tag;
 mod word;
 
 pub use cache::{Cache, Cached, Numbered};

@@ -1,5 +1,8 @@
 //! A fetched word.
+ghost use Rattle.std.specs.Prelude.{◌≡◌};
 ghost use Rattle.tlb_model.specs.Words.{covers_word, is_at};
+ghost use Rattle.tlb_model.specs.Inside.ItemTags.{no_tag, pa_tag, word_tag};
+ghost use Rattle.tlb_model.specs.Inside.TagLaws.{word_covered, word_held};
 
 use crate::cache::Cached;
 use crate::fence::Flush;
@@ -20,6 +23,16 @@ impl Cached for FetchWord {
 
     ghost covers = { covers_word };
 
+    ghost tag = { word_tag };
+
+    ghost key_tag = { pa_tag };
+
+    ghost flush_tag = { no_tag };
+
+    ghost held = { word_held };
+
+    ghost covered = { word_covered };
+
     fn holds(&self, pa: u64) -> bool {
         self.pa == pa
     }
@@ -30,4 +43,23 @@ impl Cached for FetchWord {
             Flush::Entries(_) => false,
         }
     }
+
+    fn tag(&self) -> u8 {
+        pa_tag(self.pa)
+    }
+
+    fn key_tag(pa: u64) -> u8 {
+        pa_tag(pa)
+    }
+
+    fn flush_tag(_flush: Flush) -> Option<u8> {
+        None
+    }
+}
+
+/// The low byte of a word's number.
+fn pa_tag(pa: u64) -> u8
+    ensures { result ≡ pa_tag pa }
+{
+    (pa / 8 % 256) as u8
 }

@@ -19,7 +19,7 @@ const LONG: u64 = 500;
 const QUIET: u64 = 2_000;
 
 /// How fast orders are tried.
-#[derive(Clone, Copy, Debug)]
+#[derive(Clone, Copy)]
 pub(crate) struct Pace {
     begun: Instant,
     last: u64,

@@ -1,5 +1,5 @@
 -- The 16 places of a cache, which the fills take in turn (profile).
-use Rattle.std.specs.Prelude.{ℕ, zero, suc, ◌%◌, List, [], ◌∷◌, ◌++◌, Bool, true, false, ◌==◌, Option, Some, None, slice_get, slice_index}
+use Rattle.std.specs.Prelude.{◌≡◌, ℕ, zero, suc, ◌%◌, List, [], ◌∷◌, ◌++◌, Bool, true, false, ◌==◌, Option, Some, None, slice_get, slice_index}
 use Rattle.std.specs.Int.{bit_at}
 use Rattle.tlb_model.specs.declared.cache.Numbered.{Numbered}
 
@@ -19,14 +19,6 @@ module _ {E : Type 0} where
       kept (slice_get places (number % 16)) (bit_at dropped (number % 16) == 1) (slice_index dates (number % 16)) number
       ++ seen number count places dates dropped
 
-  -- the item of a place, if its bit is set
-  abbrev pub marked_at : Option E → (is_marked : Bool) → List E
-  marked_at (Some item) true = item ∷ []
-  marked_at (Some item) false = []
-  marked_at None is_marked = []
-
-  -- The items of so many places whose bits are set in the word, from the last place down.
-  abbrev pub marked : (count : ℕ) → (places : List E) → (word : ℕ) → List E
-  marked zero places word = []
-  marked (suc place) places word = marked_at (slice_get places place) (bit_at word place == 1)
-      ++ marked place places word
+  -- each item's tag is at the index of its place
+  abbrev pub AreTagged : (tag : E → ℕ) → (places : List E) → (tags : List ℕ) → Type 0
+  AreTagged tag places tags = (place : ℕ) (item : E) → slice_get places place ≡ Some item → slice_index tags place ≡ tag item

@@ -1,15 +1,13 @@
-use Rattle.guest_script.proofs.PlainParts.{one_digit_begins, three_digits_begin, two_digits_begin}
+use Rattle.std.proofs.Common.{◌+◌, arith}
+use Rattle.guest_script.proofs.HartDigits.{hart_read, one_at_most}
+use Rattle.guest_script.proofs.PlainParts.{rest_of}
 use Rattle.guest_script.proofs.hart_digits.plain_hart.Goals as goal
-
-pub returns-then-eq-clause-number : goal.returns-then-eq-clause-number
-returns-then-eq-clause-number c =
-    one_digit_begins c.args.bytes.now c.in_ok-one.rest.now _ c.in_ok-one.one c.in_ok-one.ensures.digit c.in_ok-one.ensures.number
-
-pub returns-then-eq-2-clause-number : goal.returns-then-eq-2-clause-number
-returns-then-eq-2-clause-number c =
-    two_digits_begin c.args.bytes.now c.in_ok-one.rest.now c.in_ok-two.rest.now _ _ c.in_ok-one.one c.in_ok-two.two c.in_ok-one.ensures.digit c.in_ok-one.ensures.number c.in_ok-two.ensures.digit c.in_ok-two.ensures.number
 
 pub returns-clause-number : goal.returns-clause-number
 returns-clause-number c =
-    three_digits_begin c.args.bytes.now c.in_ok-one.rest.now c.in_ok-two.rest.now c.in_ok-three.rest.now _ _ _ c.in_ok-one.one c.in_ok-two.two c.in_ok-three.three
-    c.in_ok-one.ensures.digit c.in_ok-one.ensures.number c.in_ok-two.ensures.digit c.in_ok-two.ensures.number c.in_ok-three.ensures.digit c.in_ok-three.ensures.number
+    let bytes = c.args.bytes.now in
+    let long = c.in-len3-up.len_at_least in
+    rw (rest_of bytes (1 + c.from.result + c.from-2.result) (omega (arith, long, one_at_most _ _ c.from.ensures, one_at_most _ _ c.from-2.ensures)))
+    (hart_read bytes c.digit_value-one.result c.digit_value-two.result c.digit_value-three.result c.with_digit-n.result c.with_digit-n-2.result c.from.result c.from-2.result long
+    (λ i. (c.type_inv.bytes i).fits) c.digit_value-one.ensures.value c.digit_value-two.ensures.value c.digit_value-three.ensures.value (omega (arith, c.if-one-gt9.false))
+    c.with_digit-n.ensures c.with_digit-n-2.ensures c.from.ensures c.from-2.ensures)

@@ -4,7 +4,7 @@ use Rattle.std.proofs.Math.Facts.{Fits-lt-pow}
 use Rattle.std.proofs.Math.Nat.{mod-eq_of_lt}
 use Rattle.std.proofs.Math.Pow.{pow-lt}
 use Rattle.std.proofs.lemmas.Nat.Bits.{bit_at_not}
-use Rattle.tlb_model.proofs.Places.{bit-mod}
+use Rattle.tlb_model.proofs.Marks.{bit-mod}
 use Rattle.tlb_model.proofs.cache.kept_places.Goals as goal
 
 pub returns-clause-kept : goal.returns-clause-kept

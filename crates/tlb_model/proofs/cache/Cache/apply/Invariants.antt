@@ -1,5 +1,5 @@
 use Rattle.std.proofs.Common.{◌^◌, ◌<◌, length}
-use Rattle.tlb_model.proofs.Places.{IsFenced}
+use Rattle.tlb_model.proofs.Fencing.{IsFenced}
 use Rattle.tlb_model.proofs.cache.Cache.apply.Given as goal
 
 abbrev pub invariant-loop-left : goal.invariant-loop-left
