@@ -143,12 +143,7 @@ fn take(board: &mut Board, event: &Event) {
 }
 
 /// An event was the board's last.
-fn show(
-    alloc: Global,
-    board: &Board,
-    seen: &Seen,
-    looks: &mut [Look],
-) -> Result<(), AllocError> {
+fn show(alloc: Global, board: &Board, seen: &Seen, looks: &mut [Look]) -> Result<(), AllocError> {
     for look in looks.iter_mut() {
         look.happened(alloc, board, seen)?;
     }

@@ -270,11 +270,7 @@ fn next_at(fencing: &Fencing) -> Option<usize> {
 }
 
 /// Why a fence that was asked ended nothing at a hart.
-fn write_reach<W: fmt::Write>(
-    f: &mut fmt::Formatter<W>,
-    hart: u64,
-    reach: Reach,
-) -> fmt::Result {
+fn write_reach<W: fmt::Write>(f: &mut fmt::Formatter<W>, hart: u64, reach: Reach) -> fmt::Result {
     match reach {
         Reach::NotAsked => write!(f, ", and not hart {hart}"),
         Reach::Waits => write!(f, "; hart {hart} hasn't served it yet"),
