@@ -90,7 +90,7 @@ for it in "FOLDER/$name.$task.$kind" "FOLDER/$name.$task" "FOLDER/$task.$kind" "
 done
 exit 6
 """
-USE_TEST = "only records tell marks, and explore makes none: use test"
+USE_TEST = "the program fetches, and only records tell its marks: use test"
 
 
 class Table:
