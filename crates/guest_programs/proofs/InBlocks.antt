@@ -8,18 +8,27 @@ use Rattle.board_core.specs.Opening.{Opening}
 use Rattle.board_core.specs.States.{state}
 use Rattle.hsm.specs.declared.hart.HartState.TheVariants.{Started}
 use Rattle.guest_script.specs.Grammar.{Guest}
-use Rattle.guest_programs.specs.Blocks.{block_of, done, in_blocks, ops_in}
+use Rattle.guest_programs.specs.Blocks.{block_of, done, in_blocks, ops_in, turn_by_op}
+use Rattle.guest_programs.specs.declared.turns.GuestTurn.TheVariants.{Through}
 use Rattle.guest_programs.specs.Ends.{IsThrough}
-use Rattle.guest_programs.specs.Guests.{AreNext, Did, Entered, did, last_entry, next_for, next_op}
+use Rattle.guest_programs.specs.Guests.{AreNext, Did, Entered, did, last_entry, next_for, next_op, turn_op, turn_for}
 
 pub as-many : (before : Did) → length (ops_in before) ≡ length before
 as-many [] = refl
 as-many (one ∷ before) = let fewer = as-many before in omega (arith, length-append (ops_in before) (one.0 ∷ []))
 
+op-turn : (op : Option Op) → turn_op (turn_by_op op) ≡ op
+op-turn None = refl
+op-turn (Some op) = refl
+
+turn-in : (blocks : List Guest) (entry : Option Entered) (before : Did) → turn_for (in_blocks blocks) entry before ≡ turn_by_op (slice_get (block_of blocks entry) (length before))
+turn-in blocks None before = refl
+turn-in blocks (Some entry) before = refl
+
 -- an operation stands in its block
 pub next-in : (blocks : List Guest) (entry : Option Entered) (before : Did) → next_for (in_blocks blocks) entry before ≡ slice_get (block_of blocks entry) (length before)
-next-in blocks None before = refl
-next-in blocks (Some entry) before = refl
+next-in blocks entry before =
+    ap turn_op (turn-in blocks entry before) ∙ op-turn (slice_get (block_of blocks entry) (length before))
 
 pub next-done : (blocks : List Guest) (past : List Event) (h : ℕ) → next_op (in_blocks blocks) past h ≡ slice_get (block_of blocks (last_entry past h)) (length (done past h))
 next-done blocks past h = next-in blocks (last_entry past h) (did past h) ∙ ap (slice_get (block_of blocks (last_entry past h))) (sym (as-many (did past h)))
@@ -65,16 +74,16 @@ none-behind : {A : Type 0} (xs : List A) → slice_get xs (length xs) ≡ None
 none-behind [] = refl
 none-behind (x ∷ xs) = none-behind xs
 
-whole-of : (blocks : List Guest) (entry : Option Entered) (before : Did) → AreNext (in_blocks blocks) entry before → next_for (in_blocks blocks) entry before ≡ None
+whole-of : (blocks : List Guest) (entry : Option Entered) (before : Did) → AreNext (in_blocks blocks) entry before → turn_for (in_blocks blocks) entry before ≡ Through
     → ops_in before ≡ block_of blocks entry
 whole-of blocks entry before follows over =
-    begun blocks entry before follows ∙ all-taken (length before) (block_of blocks entry) (sym (next-in blocks entry before) ∙ over)
+    begun blocks entry before follows ∙ all-taken (length before) (block_of blocks entry) (sym (next-in blocks entry before) ∙ ap turn_op over)
 
-over-by : (blocks : List Guest) (entry : Option Entered) (before : Did) → ops_in before ≡ block_of blocks entry → next_for (in_blocks blocks) entry before ≡ None
+over-by : (blocks : List Guest) (entry : Option Entered) (before : Did) → ops_in before ≡ block_of blocks entry → turn_for (in_blocks blocks) entry before ≡ Through
 over-by blocks entry before whole =
-    next-in blocks entry before
-    ∙ ap (λ (n : ℕ). slice_get (block_of blocks entry) n) (sym (as-many before) ∙ ap length whole)
-    ∙ none-behind (block_of blocks entry)
+    turn-in blocks entry before
+    ∙ ap (λ (n : ℕ). turn_by_op (slice_get (block_of blocks entry) n)) (sym (as-many before) ∙ ap length whole)
+    ∙ ap turn_by_op (none-behind (block_of blocks entry))
 
 pub through-done : (o : Opening) (past : List Event) (blocks : List Guest) (h : ℕ)
     → IsThrough o past (in_blocks blocks) h ↔ ((state o past h ≡ Started) × (outstanding o past h ≡ None) × (done past h ≡ block_of blocks (last_entry past h)))

@@ -10,15 +10,16 @@ use Rattle.guest_programs.specs.declared.ends.End.{End}
 use Rattle.guest_programs.specs.declared.ends.End.TheVariants.{GateLimit, Off, HistoryFull, Quiet, Stuck}
 use Rattle.guest_programs.specs.declared.met.Met.{Met}
 use Rattle.guest_programs.specs.declared.met.Met.TheVariants.{FullHistory, ClosedGate}
-use Rattle.guest_programs.specs.Guests.{HasFollowed, Next, next_op}
+use Rattle.guest_programs.specs.declared.turns.GuestTurn.TheVariants.{Through}
+use Rattle.guest_programs.specs.Guests.{HasFollowed, Next, next_turn}
 
 -- A hart is through: it is STARTED and in no fence call; since its last entry its guest did only its next operations,
--- and has none left.
+-- and is through.
 pub record IsThrough (o : Opening) (past : List Event) (guests : Next) (h : ℕ) : Type 0 where
   pub started : state o past h ≡ Started
   pub outside : outstanding o past h ≡ None
   pub followed : HasFollowed guests past h
-  pub over : next_op guests past h ≡ None
+  pub over : next_turn guests past h ≡ Through
 
 -- A hart that is STOPPED, or through, is quiet.
 abbrev pub IsQuiet : Opening → List Event → Next → ℕ → Type 0

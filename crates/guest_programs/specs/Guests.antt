@@ -6,6 +6,8 @@ use Rattle.board_terms.specs.declared.reply.Reply.{Reply}
 use Rattle.board_terms.specs.declared.reply.Reply.TheVariants.{Entry}
 use Rattle.board_core.specs.Course.{is_hart}
 use Rattle.board_core.specs.History.{Event}
+use Rattle.guest_programs.specs.declared.turns.GuestTurn.{GuestTurn}
+use Rattle.guest_programs.specs.declared.turns.GuestTurn.TheVariants as turns
 
 -- Whether an operation is a guest's: neither the firmware's nor the clock's.
 abbrev pub is_guest : Op → Bool
@@ -62,14 +64,34 @@ did (e ∷ past) h = did_after (meaning_of h e) (did past h)
 
 -- ---- what guests do
 
--- The guests' program: the next operation, if there is one, by the entry and the operations since.
-abbrev pub Next : Type 0
-Next = Entered → Did → Option Op
+-- the operation of a turn, if it has one
+abbrev pub turn_op : GuestTurn → Option Op
+turn_op (turns.Does op) = Some op
+turn_op turns.Through = None
+turn_op turns.Lost = None
 
--- the next operation of a guest; none if its hart was never entered
+-- whether a guest is through
+abbrev pub is_over : GuestTurn → Bool
+is_over (turns.Does op) = false
+is_over turns.Through = true
+is_over turns.Lost = false
+
+-- The guests' program: what each does next, by the entry and the operations since.
+abbrev pub Next : Type 0
+Next = Entered → Did → GuestTurn
+
+-- what a guest does next; nothing if its hart was never entered
+abbrev pub turn_for : Next → Option Entered → Did → GuestTurn
+turn_for guests None before = turns.Through
+turn_for guests (Some entry) before = guests entry before
+
+-- its next operation, if it has one
 abbrev pub next_for : Next → Option Entered → Did → Option Op
-next_for guests None before = None
-next_for guests (Some entry) before = guests entry before
+next_for guests entry before = turn_op (turn_for guests entry before)
+
+-- What hart h's guest does next.
+abbrev pub next_turn : Next → List Event → ℕ → GuestTurn
+next_turn guests past h = turn_for guests (last_entry past h) (did past h)
 
 -- The next operation of hart h's guest.
 abbrev pub next_op : Next → List Event → ℕ → Option Op
@@ -88,11 +110,11 @@ HasFollowed guests past h = AreNext guests (last_entry past h) (did past h)
 
 -- what a guest does from some moment on, by its operations since
 abbrev pub Rest : Type 0
-Rest = Did → Option Op
+Rest = Did → GuestTurn
 
 -- `rest` is what a guest does after this entry and these operations.
 abbrev pub IsBehind : Rest → Next → Option Entered → Did → Type 0
-IsBehind rest guests entry before = (more : Did) → rest more ≡ next_for guests entry (more ++ before)
+IsBehind rest guests entry before = (more : Did) → rest more ≡ turn_for guests entry (more ++ before)
 
 -- `rest` is what the guest of hart h does after this history.
 abbrev pub IsAt : Rest → Next → List Event → ℕ → Type 0

@@ -3,7 +3,8 @@ ghost use Rattle.std.specs.Prelude.{◌≡◌, ◌∷◌, ◌<◌, ◌↔◌, �
 ghost use Rattle.board_terms.specs.declared.op.Actor.TheVariants.{Hart};
 ghost use Rattle.board_core.specs.History.{Event};
 ghost use Rattle.guest_programs.specs.Ends.{AreQuiet, IsEnd, IsEndBy, IsQuiet};
-ghost use Rattle.guest_programs.specs.Guests.{AreNext, Did, Entered, next_for};
+ghost use Rattle.guest_programs.specs.Guests.{AreNext, Did, Entered, turn_for};
+ghost use Rattle.guest_programs.specs.declared.turns.GuestTurn.TheVariants.{Through};
 ghost use Rattle.guest_programs.specs.Places.{AllFollowed, IsFollowed, IsFollowedTo};
 
 use crate::ends::End;
@@ -88,7 +89,7 @@ fn followed_behind<G: Guests>(
     let Followed::To(place) = found else {
         return Followed::Strayed;
     };
-    let Some(next) = guests.op_at(place) else {
+    let Some(next) = guests.turn_at(place).op() else {
         return Followed::Strayed;
     };
     if !is_same(next, op) {
@@ -97,14 +98,14 @@ fn followed_behind<G: Guests>(
     Followed::To(guests.behind(place, op, reply))
 }
 
-/// Whether the guest did only its next operations, and has none left.
+/// Whether the guest did only its next operations, and is through.
 fn is_through<G: Guests>(guests: &G, found: &Followed<G::Place>) -> bool
     ensures { (entry : Option Entered) (before : Did)
         → IsFollowedTo (G.rest guests.now) (G.next guests.now) entry before found.now
-        → (result ≡ true) ↔ (AreNext (G.next guests.now) entry before × (next_for (G.next guests.now) entry before ≡ None)) }
+        → (result ≡ true) ↔ (AreNext (G.next guests.now) entry before × (turn_for (G.next guests.now) entry before ≡ Through)) }
 {
     match found {
-        Followed::To(place) => guests.op_at(*place).is_none(),
+        Followed::To(place) => guests.turn_at(*place).is_through(),
         Followed::Strayed => false,
     }
 }

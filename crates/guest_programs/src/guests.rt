@@ -4,12 +4,14 @@ ghost use Rattle.board_terms.specs.declared.op.Actor.TheVariants.{Hart};
 ghost use Rattle.board_core.specs.History.{Event};
 ghost use Rattle.guest_programs.specs.Guests.{IsAt, is_guest};
 
+use crate::turns::GuestTurn;
 use board_core::{Op, Reply};
 use std::alloc::AllocError;
 
 /// The guests of a board's harts: what each does from its entry on, given the replies that it got.
 pub trait Guests {
-    ghost use Rattle.std.specs.Prelude.{◌≡◌, ◌∷◌, ◌++◌, ℕ, List, [], IfOk, None};
+    ghost use Rattle.std.specs.Prelude.{◌≡◌, ◌∷◌, ◌++◌, ℕ, List, [], IfOk};
+    ghost use Rattle.guest_programs.specs.declared.turns.GuestTurn.TheVariants.{Through};
     ghost use Rattle.guest_programs.specs.Guests.{Did, Next, Rest};
 
     /// The place of a guest in its program.
@@ -26,7 +28,7 @@ pub trait Guests {
 
     /// The place of a guest whose hart wasn't entered yet: it does nothing.
     fn nowhere(&self) -> Self::Place
-        ensures { (more : Did) → rest self.now result more ≡ None };
+        ensures { (more : Did) → rest self.now result more ≡ Through };
 
     /// The place of a guest after an entry of its hart.
     fn entered(&self, addr: u64, hart: u64, opaque: u64) -> Self::Place
@@ -37,8 +39,8 @@ pub trait Guests {
     fn behind(&self, place: Self::Place, op: Op, reply: Reply) -> Self::Place
         ensures { (more : Did) → rest self.now result more ≡ rest self.now place (more ++ (op, reply) ∷ []) };
 
-    /// The guest's next operation, if it has one.
-    fn op_at(&self, place: Self::Place) -> Option<Op>
+    /// What the guest does next.
+    fn turn_at(&self, place: Self::Place) -> GuestTurn
         ensures { result ≡ rest self.now place [] };
 
     /// Appends the words of a place.

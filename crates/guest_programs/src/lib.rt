@@ -12,6 +12,7 @@ mod met;
 mod places;
 mod programs;
 mod steps;
+mod turns;
 
 pub use block_guests::BlockPlace;
 pub use blocks::Program;
@@ -23,3 +24,4 @@ pub use met::Met;
 pub use places::Places;
 pub use programs::{blocks_in_order, program_in};
 pub use steps::{Step, steps_are_all};
+pub use turns::GuestTurn;

@@ -19,7 +19,7 @@ use Rattle.board_lock.specs.Coming.{chosen}
 use Rattle.board_lock.specs.Events.{IsActor, is_same}
 use Rattle.board_lock.specs.Receipts.{AcceptedCall}
 use Rattle.board_lock.specs.declared.views.HartNow.{HartNow}
-use Rattle.guest_programs.specs.Guests.{IsAt, Next, Rest, did, last_entry, next_for, next_op}
+use Rattle.guest_programs.specs.Guests.{IsAt, Next, Rest, did, last_entry, next_op, turn_op, turn_for}
 use Rattle.guest_programs.specs.Steps.{AreOwn, IsActorsOwn, IsOwn, Task, is_clock, ticked}
 use Rattle.guest_programs.specs.Histories.{IsHistory}
 use Rattle.guest_programs.specs.declared.ends.End.{End}
@@ -44,10 +44,10 @@ own-choice now guest op is = by-row _ _ _ _ _ guest op is
 -- where its hart did nothing since, a guest's next operation is the same
 next-still : (guests : Next) (h : ℕ) (seen past : List Event) → IsSuffix seen past → many_of (Hart h) seen ≡ many_of (Hart h) past → next_op guests seen h ≡ next_op guests past h
 next-still guests h seen past since still =
-    let rest : Rest = (λ more. next_for guests (last_entry seen h) (more ++ did seen h)) in
+    let rest : Rest = (λ more. turn_for guests (last_entry seen h) (more ++ did seen h)) in
     let few : many_of (Hart h) (since.0 ++ seen) ≤ many_of (Hart h) seen = (let same = ap (many_of (Hart h)) since.1 in omega arith) in
     let at : IsAt rest guests (since.0 ++ seen) h = rest-still guests rest (Hart h) since.0 seen (none-since (Hart h) since.0 seen few) (λ more. refl) in
-    subst (λ (p : List Event). next_op guests seen h ≡ next_op guests p h) since.1 (at [])
+    subst (λ (p : List Event). next_op guests seen h ≡ next_op guests p h) since.1 (ap turn_op (at []))
 
 -- ---- the clock's
 

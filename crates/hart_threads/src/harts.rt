@@ -35,7 +35,7 @@ pub(crate) fn follow<K: Plan, G: Gate, P: Guests, R: Wait>(
     let mut met = Met::Nothing;
     let mut view = work.board.view(rt, &mut seat);
     for _ in rt.forever() {
-        let guest = work.guests.op_at(place);
+        let guest = work.guests.turn_at(place).op();
         if let Some(op) = next(&view, met, guest) {
             met = attempt(rt, work, &mut seat, &mut place, &mut view, op);
         } else if let Some(now) = work

@@ -4,6 +4,7 @@ use Rattle.board_lock.specs.Seats.{Sitting}
 use Rattle.guest_programs.specs.declared.met.Met.{Met}
 use Rattle.guest_programs.specs.declared.met.Met.TheVariants.{Nothing}
 use Rattle.std.specs.Prelude.{None, Some}
+use Rattle.guest_programs.specs.Guests.{turn_op}
 use Rattle.hart_threads.specs.Choices.{next_choice}
 use Rattle.hart_threads.specs.Inside.Works.{Goes, Task, WorkedAt, task}
 use Rattle.hart_threads.proofs.Steps.{fresh-going, looked, met-nothing, rested, view-turn}
@@ -19,7 +20,7 @@ pub attempt-met-requires-clause-turn : goal.attempt-met-requires-clause-turn
 attempt-met-requires-clause-turn g c =
     let t : Task = task g.K.Plan.lets g.K.Plan.heard g.K.Room.opening g.K.Plan.guests g.K.Plan.ticks in
     view-turn t c.loop.seat c.loop.view c.loop.met (g.P.Guests.rest c.args.work.now.guests.now c.loop.place) c.in-Some-next.op c.loop.invariant.2 c.loop.invariant.1
-    (subst (λ guest. next_choice c.loop.view c.loop.met guest ≡ Some c.in-Some-next.op) c.op_at-guest.ensures (sym (rw c.in-Some-next.is at c.next-in-loop.ensures)))
+    (subst (λ guest. next_choice c.loop.view c.loop.met guest ≡ Some c.in-Some-next.op) (c.op-guest.ensures ∙ ap turn_op c.turn_at.ensures) (sym (rw c.in-Some-next.is at c.next-in-loop.ensures)))
 
 pub loop-init : goal.loop-init
 loop-init g c =
@@ -50,5 +51,5 @@ returns-clause-worked g c =
           (rested t seat w.rest_for.new.seat c.loop.view c.loop.met (g.P.Guests.rest c.args.work.now.guests.now c.loop.place) (λ clock. c.requires.hart (sym actor ∙ clock))
           (subst (IsActor g.K.Room.opening.config) (sym actor) c.requires.acting)
           c.loop.invariant.2 c.loop.invariant.1
-          (subst (λ guest. next_choice c.loop.view c.loop.met guest ≡ None) w.op_at-guest.ensures (sym (rw w.in_default.is at w.next-in-loop.ensures))) w.rest_for.ensures.seat w.rest_for.ensures.later)
+          (subst (λ guest. next_choice c.loop.view c.loop.met guest ≡ None) (w.op-guest.ensures ∙ ap turn_op w.turn_at.ensures) (sym (rw w.in_default.is at w.next-in-loop.ensures))) w.rest_for.ensures.seat w.rest_for.ensures.later)
     ]
