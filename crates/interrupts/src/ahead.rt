@@ -130,9 +130,10 @@ fn with_room(members: &mut ArrayVec<Member, ROOM>, start: usize) -> usize
 }
 
 /// The place for a deadline: before those that are later, and after the others. Most often that is the end; otherwise the
-/// place is found by halving.
+/// place is found by halving, as often for few members as for many: so no branch depends on the deadlines.
 fn place_of(members: &[Member], start: usize, deadline: u64) -> usize
     requires within { start ≤ length members.now }
+    requires room { length members.now ≤ ROOM }
     requires in_order { IsNonDecreasingBy (λ (m : Member). m.deadline) (drop start members.now) }
     ensures { IsPlaceOf deadline start members.now result }
 {
@@ -142,15 +143,16 @@ fn place_of(members: &[Member], start: usize, deadline: u64) -> usize
     }
     let mut low = start;
     let mut size = end - start;
-    while size > 1 {
+    let mut most = ROOM;
+    while most > 1 {
         let half = size / 2;
-        // (no branch: the processor couldn't foresee it)
         low += if members[low + half].deadline <= deadline {
             half
         } else {
             0
         };
         size -= half;
+        most -= most / 2;
     }
     if members[low].deadline <= deadline {
         low + 1
