@@ -10,7 +10,7 @@ use Rattle.std.proofs.lemmas.List.Elements.{All-append, All-cons, All-drop, All-
 use Rattle.hart_mask.specs.Ids.{has, with_id, without_id}
 use Rattle.hart_mask.proofs.Sets.{has-ids_where}
 use Rattle.interrupts.specs.declared.ahead.Member.{Member}
-use Rattle.interrupts.specs.Inside.Ahead.{IsFirst, IsInserted, IsLater, member_of, without_hart}
+use Rattle.interrupts.specs.Inside.Ahead.{HasOnly, IsFirst, IsInserted, IsLater, member_of, without_hart}
 use Rattle.interrupts.specs.Inside.Listed.{IsListed, deadlines_in, due_after, is_ahead, left_after}
 use Rattle.interrupts.specs.Timing.{is_due}
 
@@ -60,6 +60,27 @@ All-without P h (m ∷ ms) all = by_hart (m.hart == h) (All-tail P m ms all) (Al
     by_hart : (same : Bool) → All P ms → All P (without_hart h ms) → All P (if same then ms else m ∷ without_hart h ms)
     by_hart true rest ih = rest
     by_hart false rest ih = All-cons P m (without_hart h ms) (All-head P m ms all) ih
+
+-- all deadlines of a hart in the list are its deadline
+only-in : (h d : ℕ) (members : List Member) → All (λ e. e ≡ d) (deadlines_in h members) → HasOnly d h members
+only-in h d [] all = All-nil (λ (member : Member). (member.hart == h) ≡ true → member.deadline ≡ d)
+only-in h d (m ∷ ms) all = by_hart (m.hart == h) refl all (λ more. only-in h d ms more)
+  where
+    by_hart : (same : Bool) → (m.hart == h) ≡ same → All (λ e. e ≡ d) (if same then m.deadline ∷ deadlines_in h ms else deadlines_in h ms)
+        → (All (λ e. e ≡ d) (deadlines_in h ms) → HasOnly d h ms) → HasOnly d h (m ∷ ms)
+    by_hart true is own ih =
+        All-cons (λ (member : Member). (member.hart == h) ≡ true → member.deadline ≡ d) m ms
+        (λ _. All-head (λ e. e ≡ d) m.deadline (deadlines_in h ms) own) (ih (All-tail (λ e. e ≡ d) m.deadline (deadlines_in h ms) own))
+    by_hart false is own ih =
+        All-cons (λ (member : Member). (member.hart == h) ≡ true → member.deadline ≡ d) m ms (λ yes. let no : true ≡ false = sym yes ∙ is in cc) (ih own)
+
+pub only-of : (time : ℕ) (deadlines : List (Option ℕ)) (ahead : List Member) (due : List ℕ) (h d : ℕ) → h < length deadlines
+    → get_or deadlines h None ≡ Some d → IsListed time deadlines ahead due → HasOnly d h ahead
+only-of time deadlines ahead due h d inside is kept = only-in h d ahead (by_set (has due h) (kept.listed h inside))
+  where
+    by_set : (in_set : Bool) → deadlines_in h ahead ≡ (if in_set then [] else option_to_list (get_or deadlines h None)) → All (λ e. e ≡ d) (deadlines_in h ahead)
+    by_set true told = rw told (All-nil (λ (e : ℕ). e ≡ d))
+    by_set false told = rw (told, is) (All-cons (λ e. e ≡ d) d [] refl (All-nil (λ (e : ℕ). e ≡ d)))
 
 -- whether a hart's deadline is due is whether it is in the set
 pub pending-by : (time : ℕ) (deadlines : List (Option ℕ)) (ahead : List Member) (due : List ℕ) (h : ℕ) → h < length deadlines

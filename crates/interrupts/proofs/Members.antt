@@ -4,6 +4,7 @@ use Rattle.std.specs.Prelude.{◌==◌}
 use Rattle.std.specs.List.{All, insert, position, position_or_len, remove}
 use Rattle.std.specs.List.Sorted.{IsNonDecreasingBy}
 use Rattle.std.proofs.lemmas.Bool.{cases_lt, lt-ltb}
+use Rattle.std.proofs.lemmas.Bool.Decides.{eqb_tells}
 use Rattle.std.proofs.lemmas.List.Elements.{All-tail}
 use Rattle.std.proofs.lemmas.List.Quantifiers.{position-Some}
 use Rattle.std.proofs.lemmas.List.Sums.{fails_before_first}
@@ -11,7 +12,7 @@ use Rattle.std.proofs.lemmas.List.{drop_at, get_or-drop, get_or_default, length-
 use Rattle.std.proofs.lemmas.List.Edits.{get_or-remove_above, get_or-remove_below, insert-append_right, length-remove, remove-append_right}
 use Rattle.std.proofs.lemmas.List.Sorted.{IsNonDecreasingBy-insert}
 use Rattle.interrupts.specs.declared.ahead.Member.{Member}
-use Rattle.interrupts.specs.Inside.Ahead.{IsLater, IsPlaceOf, member_of, without_hart}
+use Rattle.interrupts.specs.Inside.Ahead.{HasOnly, IsLater, IsPlaceOf, member_of, without_hart}
 
 module _ {X : Type 0} where
   pub drop-insert : (xs : List X) (start place : ℕ) (x : X) → start ≤ length xs → start ≤ place → drop start (insert xs place x) ≡ insert (drop start xs) (place - start) x
@@ -57,10 +58,21 @@ without-at hart (member ∷ members) zero inside is others = rw (is member) refl
 without-at hart (member ∷ members) (suc i) inside is others =
     rw (others 0 member (omega arith)) (ap (λ ms. member ∷ ms) (without-at hart members i (omega (arith, inside)) is (λ k d below. others (suc k) d (omega arith))))
 
-pub without-position : (hart : ℕ) (members : List Member) (i : ℕ) → position (λ (m : Member). m.hart == hart) members ≡ Some i → remove members i ≡ without_hart hart members
-without-position hart members i at =
-    let is = position-Some (λ (m : Member). m.hart == hart) members i in
-    without-at hart members i (is (member_of 0 0) at).0 (λ d. (is d at).1) (λ k d below. (is d at).2 k below)
+-- the same, where the first of the hart is looked for behind a place before which none is of the hart
+pub without-behind : (hart : ℕ) (members : List Member) (n i : ℕ) → n ≤ length members → ((k : ℕ) (d : Member) → k < n → ((get_or members k d).hart == hart) ≡ false)
+    → position (λ (m : Member). m.hart == hart) (drop n members) ≡ Some i → remove members (n + i) ≡ without_hart hart members
+without-behind hart members n i within others at =
+    let is = position-Some (λ (m : Member). m.hart == hart) (drop n members) i in
+    let long = length-drop n members in
+    let inside = (is (member_of 0 0) at).0 in
+    without-at hart members (n + i) (omega (arith, long, within, inside)) (λ d. rw (← get_or-drop n members i d) (is d at).1)
+    (λ k d below. elim (cases_lt k n) [
+      | inl low ↦ others k d low
+      | inr high ↦
+          let back : n + (k - n) ≡ k = omega (arith, high) in
+          let same : get_or (drop n members) (k - n) d ≡ get_or members k d = get_or-drop n members (k - n) d ∙ ap (λ j. get_or members j d) back in
+          rw (← same) ((is d at).2 (k - n) (omega (arith, high, below)))
+    ])
 
 -- the list itself, where none is of the hart
 without-none : (hart : ℕ) (members : List Member) → All (λ (m : Member). (m.hart == hart) ≡ false) members → without_hart hart members ≡ members
@@ -68,11 +80,36 @@ without-none hart [] none = refl
 without-none hart (member ∷ members) none =
     rw (none 0 member (omega arith)) (ap (λ ms. member ∷ ms) (without-none hart members (All-tail (λ (m : Member). (m.hart == hart) ≡ false) member members none)))
 
-pub without-absent : (hart : ℕ) (members : List Member) → position (λ (m : Member). m.hart == hart) members ≡ None → members ≡ without_hart hart members
-without-absent hart members none = elim (cases_lt (position_or_len (λ (m : Member). m.hart == hart) members) (length members)) [
-  | inl low ↦ let some : Some (position_or_len (λ (m : Member). m.hart == hart) members) ≡ None = rw (lt-ltb _ _ low) at none in cc
-  | inr high ↦ sym (without-none hart members (λ k d inside. fails_before_first (λ (m : Member). m.hart == hart) members k d (omega (arith, high, inside))))
+-- the same, where none behind a place is of the hart, and none before it
+pub without-absent : (hart : ℕ) (members : List Member) (n : ℕ) → n ≤ length members → ((k : ℕ) (d : Member) → k < n → ((get_or members k d).hart == hart) ≡ false)
+    → position (λ (m : Member). m.hart == hart) (drop n members) ≡ None → members ≡ without_hart hart members
+without-absent hart members n within others none = elim (cases_lt (position_or_len (λ (m : Member). m.hart == hart) (drop n members)) (length (drop n members))) [
+  | inl low ↦ let some : Some (position_or_len (λ (m : Member). m.hart == hart) (drop n members)) ≡ None = rw (lt-ltb _ _ low) at none in cc
+  | inr high ↦ sym (without-none hart members (λ k d inside. elim (cases_lt k n) [
+    | inl below ↦ others k d below
+    | inr above ↦
+        let back : n + (k - n) ≡ k = omega (arith, above) in
+        let same : get_or (drop n members) (k - n) d ≡ get_or members k d = get_or-drop n members (k - n) d ∙ ap (λ j. get_or members j d) back in
+        rw (← same) (fails_before_first (λ (m : Member). m.hart == hart) (drop n members) (k - n) d (omega (arith, high, length-drop n members, above, inside)))
+  ]))
 ]
+
+-- before the place for the deadlines that are earlier than a hart's only one, none is of the hart
+pub others-before : (members : List Member) (start place deadline hart : ℕ) → IsNonDecreasingBy (λ (m : Member). m.deadline) (drop start members)
+    → 0 < deadline → HasOnly deadline hart (drop start members) → IsPlaceOf (deadline - 1) start members place
+    → (k : ℕ) (d : Member) → k < place - start → ((get_or (drop start members) k d).hart == hart) ≡ false
+others-before members start place deadline hart up some only at k d below =
+    let last : place - start - 1 < length (drop start members) = omega (arith, length-drop start members, at.within, below) in
+    let low = up k (place - start - 1) d (omega (arith, below)) last in
+    let back : start + (place - start - 1) ≡ place - 1 = omega (arith, at.from, below) in
+    let same : get_or (drop start members) (place - start - 1) d ≡ get_or members (place - 1) d =
+    get_or-drop start members (place - start - 1) d ∙ ap (λ n. get_or members n d) back in
+    let is = at.before d (omega (arith, below)) in
+    let here : (get_or (drop start members) (place - start - 1) d).deadline ≤ deadline - 1 = rw same is in
+    elim (eqb_tells (get_or (drop start members) k d).hart hart) [
+      | inl own ↦ let exact = only k d (omega (arith, last, below)) own.0 in absurd (omega (arith, low, here, exact, some))
+      | inr other ↦ other.0
+    ]
 
 -- where the first of a list in order is later, each is
 pub later-from_first : (time : ℕ) (members : List Member) (start : ℕ) → IsNonDecreasingBy (λ (m : Member). m.deadline) (drop start members)

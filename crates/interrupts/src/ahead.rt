@@ -4,7 +4,7 @@ ghost use Rattle.std.specs.Prelude.{◌≡◌, ◌+◌, ◌<◌, ◌≤◌, drop
 ghost use Rattle.std.specs.List.{insert, position};
 ghost use Rattle.std.specs.List.Sorted.{IsNonDecreasingBy};
 ghost use Rattle.interrupts.specs.declared.ahead.Member.{Member};
-ghost use Rattle.interrupts.specs.Inside.Ahead.{AreLater, IsFirst, IsInserted, IsPlaceOf, member_of, without_hart};
+ghost use Rattle.interrupts.specs.Inside.Ahead.{AreLater, HasOnly, IsFirst, IsInserted, IsPlaceOf, member_of, without_hart};
 
 use arrayvec::ArrayVec;
 use std::marker::Model;
@@ -81,12 +81,16 @@ impl Ahead {
         put(&mut self.members, place, Member { deadline, hart });
     }
 
-    /// Removes this hart's first deadline, if it has one.
-    pub fn take_out(&mut self, hart: u64)
+    /// Removes this hart's first deadline, if it has one. It isn't before the first such deadline, whose place is found by
+    /// halving.
+    pub fn take_out(&mut self, deadline: u64, hart: u64)
+        requires some { 0 < deadline }
+        requires only { HasOnly deadline hart self.old }
         ensures { self.new ≡ without_hart hart self.old }
     {
-        if let Some(place) = place_of_hart(&self.members.as_slice()[self.start..], hart) {
-            self.members.remove(self.start + place);
+        let from = place_of(self.members.as_slice(), self.start, deadline - 1);
+        if let Some(place) = place_of_hart(&self.members.as_slice()[from..], hart) {
+            self.members.remove(from + place);
         }
     }
 
@@ -130,9 +134,10 @@ fn with_room(members: &mut ArrayVec<Member, ROOM>, start: usize) -> usize
 }
 
 /// The place for a deadline: before those that are later, and after the others. Most often that is the end; otherwise the
-/// place is found by halving.
+/// place is found by halving, as often for few members as for many: so no branch depends on the deadlines.
 fn place_of(members: &[Member], start: usize, deadline: u64) -> usize
     requires within { start ≤ length members.now }
+    requires room { length members.now ≤ ROOM }
     requires in_order { IsNonDecreasingBy (λ (m : Member). m.deadline) (drop start members.now) }
     ensures { IsPlaceOf deadline start members.now result }
 {
@@ -142,15 +147,16 @@ fn place_of(members: &[Member], start: usize, deadline: u64) -> usize
     }
     let mut low = start;
     let mut size = end - start;
-    while size > 1 {
+    let mut most = ROOM;
+    while most > 1 {
         let half = size / 2;
-        // (no branch: the processor couldn't foresee it)
         low += if members[low + half].deadline <= deadline {
             half
         } else {
             0
         };
         size -= half;
+        most -= most / 2;
     }
     if members[low].deadline <= deadline {
         low + 1

@@ -1,9 +1,9 @@
 //! The time, each hart's deadline, and the harts whose deadlines are due.
 
-ghost use Rattle.std.specs.Prelude.{◌≡◌, ◌<◌, ◌≤◌, ◌-◌, ◌^◌, false, length, nat_le, IfOk, if◌then◌else◌, Some, None, is_ok, is_some, replicate, unwrap_or, vec_capacity};
+ghost use Rattle.std.specs.Prelude.{◌≡◌, ◌<◌, ◌≤◌, ◌-◌, ◌^◌, false, true, length, nat_le, IfOk, if◌then◌else◌, Some, None, is_ok, is_some, replicate, unwrap_or, vec_capacity};
 ghost use Rattle.std.specs.List.{All};
 ghost use Rattle.interrupts.specs.declared.ahead.Member.{Member};
-ghost use Rattle.interrupts.specs.Inside.Ahead.{IsLater, without_hart};
+ghost use Rattle.interrupts.specs.Inside.Ahead.{HasOnly, IsLater, without_hart};
 ghost use Rattle.interrupts.specs.Inside.Listed.{due_after, is_ahead, left_after};
 ghost use Rattle.interrupts.specs.Timing.{deadline_of, is_timer_pending, last_time, opening_timing, ticked, with_deadline, without_deadlines};
 
@@ -120,7 +120,8 @@ impl Timers {
         ensures { self.new ≡ with_deadline self.old h None }
     {
         let is_ahead = self.is_ahead(h);
-        take_out_where(&mut self.ahead, h, is_ahead);
+        let deadline = self.deadlines[h as usize].unwrap_or(0);
+        take_out_where(&mut self.ahead, deadline, h, is_ahead);
         self.due.remove(h);
         self.deadlines[h as usize] = None;
     }
@@ -209,11 +210,13 @@ fn no_deadlines(alloc: Global, harts: u64) -> Result<Vec<Option<u64>>, AllocErro
 }
 
 /// Removes the deadline of hart `h` if it is in the list, which `is_ahead` says.
-fn take_out_where(ahead: &mut Ahead, h: u64, is_ahead: bool)
+fn take_out_where(ahead: &mut Ahead, deadline: u64, h: u64, is_ahead: bool)
+    requires some { is_ahead ≡ true → 0 < deadline }
+    requires only { is_ahead ≡ true → HasOnly deadline h ahead.old }
     ensures { ahead.new ≡ (if is_ahead then without_hart h ahead.old else ahead.old) }
 {
     if is_ahead {
-        ahead.take_out(h);
+        ahead.take_out(deadline, h);
     }
 }
 

@@ -1,5 +1,5 @@
 -- Deadlines that aren't due yet, as a list, the soonest first.
-use Rattle.std.specs.Prelude.{◌≡◌, ℕ, ◌-◌, ◌<◌, ◌≤◌, List, [], ◌∷◌, length, ◌==◌, if◌then◌else◌, slice_index_or}
+use Rattle.std.specs.Prelude.{◌≡◌, ℕ, true, ◌-◌, ◌<◌, ◌≤◌, List, [], ◌∷◌, length, ◌==◌, if◌then◌else◌, slice_index_or}
 use Rattle.std.specs.List.{All, insert}
 use Rattle.interrupts.specs.declared.ahead.Member.{Member}
 
@@ -11,6 +11,10 @@ member_of deadline hart = record { deadline = deadline; hart = hart }
 abbrev pub without_hart : ℕ → List Member → List Member
 without_hart hart [] = []
 without_hart hart (member ∷ members) = if member.hart == hart then members else member ∷ without_hart hart members
+
+-- a hart has no other deadline in the list than this one
+abbrev pub HasOnly : ℕ → ℕ → List Member → Type 0
+HasOnly deadline hart members = All (λ (member : Member). (member.hart == hart) ≡ true → member.deadline ≡ deadline) members
 
 -- the list with one more member, at some place
 pub record IsInserted (member : Member) (before now : List Member) : Type 0 where
