@@ -214,6 +214,7 @@ impl Board {
     /// # Errors
     ///
     /// The first refusal that applies (profile). Nothing changes.
+    #[inline(always)]
     pub fn step(&mut self, actor: Actor, op: Op) -> Result<Reply, Refusal>
         ensures answer { result ≡ answer self.old.opening self.old.past actor op }
         ensures after { self.new ≡ stepped self.old actor op }
@@ -268,6 +269,7 @@ impl Board {
     }
 
     /// Performs and records a tick that isn't refused, and returns the reply.
+    #[inline(always)]
     fn clock_step(&mut self, op: Op) -> Reply
         requires { first_refusal self.old.opening self.old.past Clock op ≡ None }
         ensures answer { Ok result ≡ answer self.old.opening self.old.past Clock op }

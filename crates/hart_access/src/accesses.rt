@@ -21,6 +21,7 @@ pub enum Access {
 
 impl Access {
     /// The kind of the access, which selects the causes of its faults (Privileged 4.1.8).
+    #[inline(always)]
     pub fn kind(self) -> Kind
         ensures { result ≡ kind_of self }
     {

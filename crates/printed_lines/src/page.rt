@@ -46,7 +46,7 @@ impl Page {
     /// # Errors
     ///
     /// A write of the waiting lines failed.
-    #[inline(never)]
+    #[inline(always)]
     pub fn print_step<W: Sink>(
         &mut self,
         actor: Actor,

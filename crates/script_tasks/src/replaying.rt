@@ -143,7 +143,9 @@ fn print_done<W: Sink>(
         (λ _. W.failures writer.old < W.failures writer.new) }
 {
     match line.doing() {
-        Doing::Step { actor, op } => print_made(actor, op, board, page, writer),
+        Doing::Step { actor, op } => {
+            for_each_kind!(op, op => print_made(actor, op, board, page, writer))
+        }
         Doing::Cut => print_cut(alloc, board, page, writer),
     }
 }

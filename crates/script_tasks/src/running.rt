@@ -12,7 +12,7 @@ use crate::checking::check_lines;
 use crate::device::{ReadFault, Source, read_script};
 use crate::outcome::Outcome;
 use crate::replaying::replay_lines;
-use board_core::{Board, BuildFault, Config, Refusal, Reply};
+use board_core::{Board, BuildFault, Config, Op, Refusal, Reply};
 use guest_script::{Body, Doing, FaultKind, KeptLine, Lines, Script, ScriptFault};
 use monitor::Sink;
 use std::alloc::{AllocError, Global};
@@ -140,7 +140,7 @@ pub fn answer_to(
     ensures unchanged { OnErr result (board.new ≡ board.old) }
 {
     match line.doing() {
-        Doing::Step { actor, op } => Ok(board.step(actor, op)),
+        Doing::Step { actor, op } => for_each_kind!(op, op => Ok(board.step(actor, op))),
         Doing::Cut => cut(alloc, board),
     }
 }
