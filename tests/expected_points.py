@@ -14,7 +14,7 @@ from .replays import spelled
 # How many steps are shown before the one at which a record fails, and behind it.
 AROUND = 6
 # A program has few states up to so many, and on a board of many pages as many as have so many pages together.
-FEW, FEW_PAGES = 500, 4_000
+FEW, FEW_PAGES = 20_000, 160_000
 # Up to so many orders are counted.
 MOST_COUNTED = (1 << 128) - 1
 

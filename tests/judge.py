@@ -20,6 +20,9 @@ NOTHING, OTHER, SETTLED, BROKEN, MET = "nothing", "the other pattern", "settled"
 
 FORBIDS = ("never", "after", "each", "before")
 
+# What a condition asks of an access in a reply's place, and what a step has that could have a mark by other entries.
+MARKS, COULD = ("stale", "missed", "unsteady"), "could"
+
 
 # ---- reading
 
@@ -50,6 +53,10 @@ def condition(line, text):
     if word == "before":
         first, _, second = rule.partition("before")[2].partition(",")
         return Condition(line, text, word, (pattern(first.split()), pattern(second.split())), None, is_maybe)
+    if word == "steady":
+        return Condition(line, text, "never", (pattern([*words, "->", "unsteady"] if words else ["_", "->", "unsteady"]),), None, is_maybe)
+    if word == "never" and words[0] in MARKS:
+        return Condition(line, text, word, (pattern(["_", "->", words[0]]),), None, is_maybe)
     if word == "never" and "after" in words:
         at = words.index("after")
         return Condition(line, text, "after", (pattern(words[:at]), pattern(words[at + 1 :])), None, is_maybe)
@@ -86,8 +93,20 @@ def fits(pattern, actor, op):
     return are_fitting(pattern.step, step_words(actor, op))
 
 
-def matches(pattern, actor, op, answer):
+def matches(pattern, actor, op, answer, marks=()):
+    """The marks are those of the step's access, if it has some."""
+    if asks_of_marks(pattern):
+        return fits(pattern, actor, op) and pattern.reply[0] in marks
     return fits(pattern, actor, op) and are_fitting(pattern.reply, answer)
+
+
+def asks_of_marks(pattern):
+    return pattern.reply[:1] in ((it,) for it in MARKS)
+
+
+def tells(pattern, actor, op, answer, marks=()):
+    """Whether a step has the actor and the operation of a pattern, and its mark, if it asks of one, or could have it."""
+    return fits(pattern, actor, op) and (not asks_of_marks(pattern) or pattern.reply[0] in marks or COULD in marks)
 
 
 # ---- conditions that say nothing
@@ -105,7 +124,7 @@ def needs(asked):
 def lacking(asked, steps):
     """The pattern that makes a condition vacuous among these steps, and whether its reply counts; None: it says something of them."""
     for wanted, with_reply in needs(asked):
-        if not any(fits(wanted, *step[:2]) and (not with_reply or matches(wanted, *step)) for step in steps):
+        if not any(tells(wanted, *step) and (not with_reply or matches(wanted, *step)) for step in steps):
             return wanted, with_reply
     return None
 
@@ -153,6 +172,10 @@ def misfits(step, reply, harts):
     yield from (f"no {op} has {word}" for place, word in enumerate(step[2:]) if op is not None and not can_be(op, place, word))
     if actor == "c":
         op = "tick"
+    if said in MARKS:
+        if op is not None and op not in CAUSES:
+            yield f"no {op} is {said}"
+        return
     if op is not None and said is not None and said not in REPLIES.get(op, ("done",)):
         yield f"no {op} has the reply {said}"
     if said is not None:
@@ -181,7 +204,7 @@ def can_be(name, place, word):
 
 
 def seen_after(asked, seen, step):
-    """What a condition has seen after a step (actor, operation and answer) more."""
+    """What a condition has seen after a step (actor, operation and answer, and the marks of its access) more."""
     first = asked.patterns[0] if asked.patterns else None
     if asked.word == "never":
         return BROKEN if matches(first, *step) else seen
@@ -234,11 +257,11 @@ def is_met(asked, steps):
 
 
 class Verdicts:
-    """What holds in all orders, which are those of `all_orders.Orders`."""
+    """What holds in all orders, which are those of `all_orders.Orders`, or of `marked_orders.MarkedOrders`."""
 
     def __init__(self, orders):
         self.orders = orders
-        self.steps = {step[:3] for steps in orders.edges for step in steps}
+        self.steps = {step[:-1] for steps in orders.edges for step in steps}
         self.depths = self.depths_of()
 
     def depths_of(self):

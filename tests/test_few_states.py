@@ -19,8 +19,8 @@ OTHERS += tuple([option, str(number)] for option in ("--seconds", "--jobs") for 
 # A program of one order, which switches the board off.
 OFF = "board 1 1 50 0 0x80000000 0\nat 0x80000000\necall 0x53525354 0 0 0\n"
 
-# Random programs that are looked at, and how many states of theirs at most.
-RANDOM, MOST = 30, FEW
+# Random programs that are looked at, and how many states of theirs the model finds at most.
+RANDOM, MOST = 30, 500
 
 
 def beside(one, other, before=0, pages=1):
@@ -33,14 +33,18 @@ def states_of(one, other, before=0):
     return 2 + before + (one + 1) * (other + 2)
 
 
-# A program of more states than are few, and one of as many and one more on a board of each size.
-MANY = beside(30, 30)
+# A program of more states than are few.
+MANY = beside(150, 150)
 
-EDGES = [(FEW, beside(19, 20, FEW - states_of(19, 20)), beside(19, 20, FEW + 1 - states_of(19, 20)))]
 
-for pages in (16, 256):
-    few = FEW_PAGES // pages
-    EDGES.append((few, beside(1, 2, few - states_of(1, 2), pages), beside(1, 2, few + 1 - states_of(1, 2), pages)))
+def edge(pages):
+    """On a board of so many pages: as many states as are few, a program of as many, and one of one more."""
+    few = min(FEW, FEW_PAGES // pages)
+    loads = max(it for it in range(few) if states_of(it, it) <= few)
+    return few, *(beside(loads, loads, states - states_of(loads, loads), pages) for states in (few, few + 1))
+
+
+EDGES = [edge(pages) for pages in (1, 16, 256)]
 
 
 def summary(lines):

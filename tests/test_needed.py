@@ -15,6 +15,7 @@ from . import judge
 from .all_orders import Orders
 from .any_tlb import marks_of_all_orders
 from .fixtures import DATA, EXAMPLES, HANG, ROOT, TESTER, Test, explored, must, read, write
+from .marked_orders import MarkedOrders, steps_of
 from .test_wrapper import clone, put
 from .test_wrapper import ran as called
 
@@ -90,7 +91,7 @@ for it in "FOLDER/$name.$task.$kind" "FOLDER/$name.$task" "FOLDER/$task.$kind" "
 done
 exit 6
 """
-USE_TEST = "only records tell marks, and explore makes none: use test"
+USE_TEST = "the program fetches, and only records tell its marks: use test"
 
 
 class Table:
@@ -148,9 +149,14 @@ def changed(text):
                 yield (at + 1, f"mask without hart {hart}"), with_line(at, " ".join(map(str, ["ecall", eid, fid, left, 0, *rest])))
 
 
+def asks_of_marks(text):
+    """Whether a condition asks which accesses are stale or unsteady."""
+    return re.search(r"^#! .*\b(steady|stale|unsteady)\b", text, re.M) is not None
+
+
 def judged(text):
     """Of each condition of a text, by its line (0: none), what all orders say: it holds, fails or says nothing."""
-    orders, found = Orders(text), {}
+    orders, found = (MarkedOrders if asks_of_marks(text) else Orders)(text), {}
     verdicts = judge.Verdicts(orders)
     asked = judge.conditions(text)
     for it in asked or [None]:
@@ -229,7 +235,8 @@ class Needed(Test):
         printed = read(os.path.join(self.work, record))
         followed = judge.Followed(Program(text), printed)
         asked = next((it for it in judge.conditions(text) if it.line == line), None)
-        must(f"{record}: {printed}", followed.end == "stuck" if asked is None else not judge.holds(asked, followed.steps, followed.end))
+        steps = steps_of(re.sub(" -> .*", "", printed)) if asks_of_marks(text) else followed.steps
+        must(f"{record}: {printed}", followed.end == "stuck" if asked is None else not judge.holds(asked, steps, followed.end))
 
     def test_needed__tables_of_the_examples(self):
         """Of each example, each change is told with the conditions that then fail in all orders, by the judge; and each record breaks its condition."""

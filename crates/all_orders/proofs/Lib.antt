@@ -1,4 +1,5 @@
 mod Bounds
 mod Explored
+mod Marks
 mod StepsTold
 mod Verdicts

@@ -20,8 +20,10 @@ pub enum Unjudged {
     TooMany(u64),
     /// It asks of marks, and the record has more events than a board's history.
     NoMarks,
-    /// It asks of marks, which only records tell, and no record was made.
-    Untold,
+    /// It asks what fence calls missed, which only records tell.
+    Missed,
+    /// It asks of marks, and a guest fetches: of its program only records tell marks.
+    Fetches,
 }
 
 impl fmt::Display for Unjudged {
@@ -35,10 +37,13 @@ impl fmt::Display for Unjudged {
                 write!(f, "more than {most} states, none of those seen breaks it")
             }
             Unjudged::NoMarks => write!(f, "more than 1,000,000 events"),
-            Unjudged::Untold => write!(
-                f,
-                "only records tell marks, and explore makes none: use test"
-            ),
+            Unjudged::Missed => write!(f, "only records tell what is missed: use test"),
+            Unjudged::Fetches => {
+                write!(
+                    f,
+                    "the program fetches, and only records tell its marks: use test"
+                )
+            }
         }
     }
 }

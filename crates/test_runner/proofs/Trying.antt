@@ -6,7 +6,7 @@ use Rattle.guest_script.specs.Grammar.{content}
 use Rattle.outcome_statistics.specs.Records.{Tried}
 use Rattle.script_lines.specs.declared.script.Script.{Script}
 use Rattle.test_report.specs.declared.report.FileReport.{FileReport}
-use Rattle.test_report.specs.declared.verdict.Unjudged.TheVariants.{NoTime, NoOrder, NotAllOrders, NoMarks, TooMany, Untold}
+use Rattle.test_report.specs.declared.verdict.Unjudged.TheVariants.{NoTime, NoOrder, NotAllOrders, NoMarks, TooMany, Missed, Fetches}
 use Rattle.test_report.specs.declared.verdict.Verdict.{Verdict}
 use Rattle.test_report.specs.declared.verdict.Verdict.TheVariants.{Holds, Fails, Vacuous, NoEnd, Misfit, NotJudged}
 use Rattle.test_terms.specs.declared.options.Options.{Options}
@@ -23,7 +23,8 @@ found-if-cut harts is_cut asked tried (NotJudged NoTime) is = (is.0, (is.1.0, re
 found-if-cut harts is_cut asked tried (NotJudged NoOrder) is = is
 found-if-cut harts is_cut asked tried (NotJudged NotAllOrders) is = is
 found-if-cut harts is_cut asked tried (NotJudged NoMarks) is = is
-found-if-cut harts is_cut asked tried (NotJudged Untold) is = is
+found-if-cut harts is_cut asked tried (NotJudged Missed) is = is
+found-if-cut harts is_cut asked tried (NotJudged Fetches) is = is
 found-if-cut harts is_cut asked tried (NotJudged (TooMany states)) is = is
 
 module _ (options : Options) (script : Script) (conditions : List Condition) (before after : FileReport) where

@@ -8,10 +8,6 @@ use guest_script::{Doing, KeptLine};
 use std::alloc::{AllocError, Global};
 use test_report::{RecordParts, Stale};
 
-/// The most events of a record whose stale lines say whether a fence call missed them: marks take time by the square of a hart's
-/// fences (profile).
-const MOST_MARKED: usize = 10_000;
-
 /// What is odd about a line.
 #[derive(Clone, Copy)]
 pub(crate) enum Odd {
@@ -95,13 +91,10 @@ impl Course {
         Ok(events)
     }
 
-    /// Whether a fence call can have missed an access of these events, which aren't too many to mark: one was stale, and a hart's
-    /// call has ended.
+    /// Whether a fence call can have missed an access of these events: one was stale, and a hart's call has ended.
     pub(crate) fn can_have_missed(&self, events: &[Event]) -> bool {
         let has_stale = self.odd.iter().any(|odd| matches!(odd, Odd::Stale { .. }));
-        has_stale
-            && events.len() <= MOST_MARKED
-            && events.iter().any(|event| matches!(event.op(), Op::Poll))
+        has_stale && events.iter().any(|event| matches!(event.op(), Op::Poll))
     }
 
     /// The record, whose events these are.

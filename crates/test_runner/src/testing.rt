@@ -16,7 +16,6 @@ use crate::texts::Texts;
 use all_orders::{explore_program, test_all_orders};
 use diagnostics::Case;
 use guest_script::Body;
-use outcome_statistics::ask_of_marks;
 use std::alloc::{AllocError, Global};
 use std::rt::{Clock, Files};
 use std::sync::Wait;
@@ -139,8 +138,7 @@ fn test_script<R: AllocGlobal + Clock + Eprint + Files + Sync + Threads + Wait>(
     }
 }
 
-/// Tests a program: by all orders for `explore` or if its states are few, otherwise by some. Only records tell marks, so where a
-/// condition asks of them, some orders are tried.
+/// Tests a program: by all orders for `explore` or if its states are few, otherwise by some.
 fn test_program<R: AllocGlobal + Clock + Eprint + Files + Sync + Threads + Wait>(
     trial: &Trial<'_, R>,
 ) -> Result<FileReport, Stop>
@@ -151,9 +149,7 @@ fn test_program<R: AllocGlobal + Clock + Eprint + Files + Sync + Threads + Wait>
     match trial.options.mode {
         Mode::Explore => Ok(explore_program(trial)?),
         Mode::Test => {
-            if !ask_of_marks(trial.case.conditions)
-                && let Some(file) = test_all_orders(trial)?
-            {
+            if let Some(file) = test_all_orders(trial)? {
                 return Ok(file);
             }
             Ok(test_some(trial)?)

@@ -28,7 +28,7 @@ use Rattle.test_report.specs.declared.report.FileReport.{FileReport}
 use Rattle.test_report.specs.declared.verdict.Extent.{Extent}
 use Rattle.test_report.specs.declared.verdict.Extent.TheVariants as spans
 use Rattle.test_report.specs.declared.verdict.Unjudged.{Unjudged}
-use Rattle.test_report.specs.declared.verdict.Unjudged.TheVariants.{NoTime, NoOrder, NotAllOrders, TooMany, NoMarks, Untold}
+use Rattle.test_report.specs.declared.verdict.Unjudged.TheVariants.{NoTime, NoOrder, NotAllOrders, TooMany, NoMarks, Missed, Fetches}
 use Rattle.test_report.specs.declared.verdict.Verdict.{Verdict}
 use Rattle.test_report.specs.declared.verdict.Verdict.TheVariants.{Holds, Fails, Vacuous, NoEnd, Misfit, NotJudged}
 use Rattle.test_terms.specs.declared.options.Options.{Options}
@@ -110,7 +110,8 @@ IsUnjudgedBy is_cut asked tried NoOrder = tried ≡ []
 IsUnjudgedBy is_cut asked tried NotAllOrders = IsOfAll asked
 IsUnjudgedBy is_cut asked tried (TooMany states) = ⊥
 IsUnjudgedBy is_cut asked tried NoMarks = ⊥
-IsUnjudgedBy is_cut asked tried Untold = ⊥
+IsUnjudgedBy is_cut asked tried Missed = ⊥
+IsUnjudgedBy is_cut asked tried Fetches = ⊥
 
 -- The condition has no misfit on a board with so many harts.
 abbrev pub HasNoMisfit : (harts : ℕ) → Option Condition → Type 0

@@ -5,7 +5,7 @@ use Rattle.std.proofs.lemmas.Option.{slice_get-get_or}
 use Rattle.conditions.specs.Condition.{Condition}
 use Rattle.test_report.specs.declared.verdict.Verdict.{Verdict}
 use Rattle.test_report.specs.Statuses.{verdicts}
-use Rattle.all_orders.specs.declared.points.Told.{Told}
+use Rattle.all_orders.specs.declared.asking.Told.{Told}
 use Rattle.all_orders.specs.Verdicts.{IsFound}
 use Rattle.all_orders.proofs.Verdicts.{slice_get-either}
 use Rattle.all_orders.proofs.points.put_points.Goals as goal
