@@ -20,6 +20,9 @@ NOTHING, OTHER, SETTLED, BROKEN, MET = "nothing", "the other pattern", "settled"
 
 FORBIDS = ("never", "after", "each", "before")
 
+# What a condition asks of an access in a reply's place.
+MARKS = ("stale", "missed", "unsteady")
+
 
 # ---- reading
 
@@ -50,6 +53,10 @@ def condition(line, text):
     if word == "before":
         first, _, second = rule.partition("before")[2].partition(",")
         return Condition(line, text, word, (pattern(first.split()), pattern(second.split())), None, is_maybe)
+    if word == "steady":
+        return Condition(line, text, "never", (pattern([*words, "->", "unsteady"] if words else ["_", "->", "unsteady"]),), None, is_maybe)
+    if word == "never" and words[0] in MARKS:
+        return Condition(line, text, word, (pattern(["_", "->", words[0]]),), None, is_maybe)
     if word == "never" and "after" in words:
         at = words.index("after")
         return Condition(line, text, "after", (pattern(words[:at]), pattern(words[at + 1 :])), None, is_maybe)
@@ -86,8 +93,15 @@ def fits(pattern, actor, op):
     return are_fitting(pattern.step, step_words(actor, op))
 
 
-def matches(pattern, actor, op, answer):
+def matches(pattern, actor, op, answer, marks=()):
+    """The marks are those of the step's access, if it has some."""
+    if asks_of_marks(pattern):
+        return fits(pattern, actor, op) and pattern.reply[0] in marks
     return fits(pattern, actor, op) and are_fitting(pattern.reply, answer)
+
+
+def asks_of_marks(pattern):
+    return pattern.reply[:1] in ((it,) for it in MARKS)
 
 
 # ---- conditions that say nothing
@@ -153,6 +167,10 @@ def misfits(step, reply, harts):
     yield from (f"no {op} has {word}" for place, word in enumerate(step[2:]) if op is not None and not can_be(op, place, word))
     if actor == "c":
         op = "tick"
+    if said in MARKS:
+        if op is not None and op not in CAUSES:
+            yield f"no {op} is {said}"
+        return
     if op is not None and said is not None and said not in REPLIES.get(op, ("done",)):
         yield f"no {op} has the reply {said}"
     if said is not None:
@@ -181,7 +199,7 @@ def can_be(name, place, word):
 
 
 def seen_after(asked, seen, step):
-    """What a condition has seen after a step (actor, operation and answer) more."""
+    """What a condition has seen after a step (actor, operation and answer, and the marks of its access) more."""
     first = asked.patterns[0] if asked.patterns else None
     if asked.word == "never":
         return BROKEN if matches(first, *step) else seen
@@ -234,7 +252,7 @@ def is_met(asked, steps):
 
 
 class Verdicts:
-    """What holds in all orders, which are those of `all_orders.Orders`."""
+    """What holds in all orders, which are those of `all_orders.Orders`, or of `marked_orders.MarkedOrders`."""
 
     def __init__(self, orders):
         self.orders = orders

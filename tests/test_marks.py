@@ -1,8 +1,12 @@
 """What conditions say of accesses on any TLB: which are stale, which a fence call missed, and which are unsteady, of schedules and traces, and of tried orders."""
+import os
+
 from board_model import number
 
 from .any_tlb import MARKS, UNSTEADY, marks_of_schedule
-from .fixtures import TESTER, Test, must, told
+from .fixtures import EXAMPLES, TESTER, Test, must, read, told
+from .judge import Verdicts, condition, holds, misfit
+from .marked_orders import MarkedOrders, steps_of
 from .test_empty_verdicts import in_way, points
 
 BEFORE = """\
@@ -171,8 +175,12 @@ def shootdown(mask, uses=USES):
 FORGETS, FENCES = shootdown("0x2"), shootdown("0x6")
 # A load that may come before the fence is served.
 WINDOW = shootdown("0x6", USES.replace("wfi\n", "load 0x1000\nwfi\n"))
+# A hart that is told to go on before the fence is asked for, and the mended twin.
+EARLY, LATE = (read(os.path.join(EXAMPLES, f"orders/early-wake{it}.program")) for it in ("", ".mended"))
+EARLY, LATE = ("".join(it for it in text.splitlines(True) if not it.startswith("#")) for text in (EARLY, LATE))
 # A program, and which of these conditions its orders meet.
 PROGRAMS = (
+    (EARLY, {"steady": False, "never stale": False, "some 1 load 0x1000 -> stale": True, "never _ -> stale after 0 poll": True}), (LATE, {"steady": True, "never stale": True, "some _ -> unsteady": False}),
     (FORGETS, {"never missed": False, "never 1 -> missed": True, "some 2 load -> missed": True, "never stale": False, "steady": False, "steady 1": True, "never 1 -> stale": True, "some 2 load -> stale": True, "each 2 load -> stale": False, "never 2 -> stale after 0 poll": False, "before 0 poll, 2 load -> stale": True, "maybe never stale": False}),
     (FENCES, {"never missed": True, "never stale": True, "steady": True, "some 2 load -> stale": False, "never _ -> unsteady after 0 poll": True}),
     (WINDOW, {"never missed": True, "never stale": False, "steady": False, "never _ -> stale after 0 poll -> ret 0 _": True, "some _ load -> stale": True}),
@@ -220,6 +228,25 @@ class Marks(Test):
         for text, asked, met in ((FORGETS, "never 2 load -> stale", False), (FORGETS, "never 1 load -> stale", True), (FENCES, "never stale", True), (FENCES, "steady", True)):
             status, found, lines = in_way(self.room, ("sbiboard", ("--times", "5", "--threads")), f"#! {asked}\n{text}")
             must(f"{asked}: {lines}", status == (0 if met else 1) and [it.startswith("ok ") for it in found] == [met, met])
+
+    def test_known_answers_of_the_enumeration(self):
+        """The enumeration's own marks are those of the tables, of schedules too; and the judge tells what no step can have."""
+        for asked, why in WRONG:
+            must(asked, misfit(condition(1, asked), 3) == why)
+        known = [(text, it, met) for text, asked in CASES + FENCE_CALLS for it, met in asked.items()]
+        known += [(text, asked, met) for asked, wrong, right in TWINS for text, met in ((wrong, False), (right, True))]
+        for text, it, met in known:
+            if "missed" not in it:
+                must(f"{it}: {text}", holds(condition(1, it), steps_of(text), None) == met)
+
+    def test_all_orders_of_programs(self):
+        """What tried orders of these programs meet is what all of their orders do, by an enumeration that shares no code with the program."""
+        for text, asked in PROGRAMS:
+            verdicts = Verdicts(MarkedOrders(text))
+            for it, met in asked.items():
+                if "missed" not in it:
+                    wanted = condition(1, it.replace("maybe ", ""))
+                    must(f"{it}: {text}", (verdicts.fewest(wanted) is None) == (met != (wanted.word == "some")))
 
     def test_a_failing_order_is_kept(self):
         """The record of the first order that fails tells the access that has the mark."""

@@ -5,10 +5,11 @@ ghost use Rattle.board_terms.specs.Limits.{IsGood};
 use crate::cause::{AccessCause, Fencing};
 use crate::fences::{Fenced, next_behind};
 use crate::look::Look;
-use crate::seen::{Seen, is_quiet};
+use crate::seen::Seen;
 use crate::sight::Sight;
 use board_core::{Board, Config, Event};
 use std::alloc::{AllocError, Global};
+use tlb_watch::is_quiet;
 
 /// Why the accesses in these places of a record are stale or unsteady, on a board with these numbers from its first opening on. The
 /// places ascend. An access that is neither has no cause, nor has one of a record with more events than a history can have. The cost

@@ -1,10 +1,11 @@
 -- A board that follows a record, after one event more.
 use Rattle.std.proofs.Common.{◌≡◌, ◌↔◌, ℕ, ◌+◌, ◌<◌, Bool, true, false, not, List, [], ◌∷◌, ◌++◌, length, get_or, reverse, refl, sym, ap, subst, ◌∙◌, Option, Some, None, Result, Ok, Err}
-use Rattle.std.specs.Prelude.{IfOk}
+use Rattle.std.specs.Prelude.{IfOk, if◌then◌else◌}
 use Rattle.std.specs.List.{All}
+use Rattle.std.proofs.lemmas.Bool.{lt-ltb}
 use Rattle.std.proofs.lemmas.List.{length-append, reverse-reverse}
-use Rattle.std.proofs.lemmas.List.Elements.{All-cons, All-head, All-nil, All-tail}
 use mathlib.Core.List.{reverse-cons}
+use Rattle.rfence.specs.Applied.{Nothing}
 use Rattle.sv39.specs.declared.cause.Cause.{Cause}
 use Rattle.hart_access.specs.declared.accesses.Access.{Access}
 use Rattle.hart_access.specs.declared.accesses.Access.TheVariants.{Fetch}
@@ -17,13 +18,17 @@ use Rattle.board_core.specs.Course.{Course}
 use Rattle.board_core.specs.History.{Event, Reach, access_of}
 use Rattle.board_core.specs.Opening.{Opening}
 use Rattle.board_core.specs.Replies.{answer, recorded, stepped}
+use Rattle.any_tlb.specs.Effects.{effect_at}
 use Rattle.any_tlb.specs.Steady.{IsSteadyWord}
 use Rattle.any_tlb.specs.WatchedWords.{WatchedWordsAgree}
+use Rattle.tlb_watch.specs.declared.effect.CacheEffect.{CacheEffect}
 use Rattle.tlb_watch.specs.declared.hart_address.HartAddress.{HartAddress}
+use Rattle.tlb_watch.specs.Effects.{effect_on, effect_there, is_there}
 use Rattle.tlb_watch.specs.Tracked.{IsTracking, addresses_of}
 use Rattle.tlb_watch.specs.Watched.{WatchedAddress}
 use Rattle.access_marks.specs.declared.marks.Marks.{Marks}
 use Rattle.access_marks.specs.Marks.{IsMarkedAs, IsMarkedStep, unmarked}
+use Rattle.access_marks.specs.Inside.Accessed.{IsPresent}
 use Rattle.access_marks.specs.Inside.Following.{IsNext}
 
 -- what holds of a value that there is
@@ -41,12 +46,16 @@ of-own o past addresses watches tracks = record {
   each = tracks.each;
 }
 
--- each is of a hart that is there
-pub all-there : (harts : ℕ) (watches : List WatchedAddress) → All (λ (at : HartAddress). at.hart < harts) (addresses_of watches) → All (λ (w : WatchedAddress). w.at.hart < harts) watches
-all-there harts [] all = All-nil (λ (w : WatchedAddress). w.at.hart < harts)
-all-there harts (w ∷ watches) all =
-    let There : HartAddress → Type 0 = λ at. at.hart < harts in
-    All-cons (λ (w : WatchedAddress). w.at.hart < harts) w watches (All-head There w.at (addresses_of watches) all) (all-there harts watches (All-tail There w.at (addresses_of watches) all))
+-- ---- effects
+
+-- what an event is seen to do, it does: its actor is there
+pub does : (o : Opening) (past : List Event) (event : Event) (effect : CacheEffect) → IsPresent o.config.harts event.actor → ((h : ℕ) → effect_on effect h ≡ effect_there o past event h)
+    → (h : ℕ) → effect_on effect h ≡ effect_at o past event h
+does o past event effect present sees h = sees h ∙ ap (λ (there : Bool). if there then effect_at o past event h else Nothing) (by_actor event.actor present)
+  where
+    by_actor : (actor : Actor) → IsPresent o.config.harts actor → is_there o.config.harts actor ≡ true
+    by_actor (Hart x) inside = lt-ltb x o.config.harts inside
+    by_actor Clock inside = refl
 
 -- ---- steps
 

@@ -3,9 +3,7 @@ pub mod Wording
 pub mod Recording
 pub mod Accessing
 pub mod Following
-pub mod Quieting
 pub mod MarkedSteps
-pub mod Leaves
 pub mod CallSteps
 pub mod MissedAccesses
 pub mod UseWatching

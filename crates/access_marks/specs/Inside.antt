@@ -4,5 +4,4 @@ pub mod Calls
 pub mod Changes
 pub mod Following
 pub mod Missing
-pub mod Quiet
 pub mod Words

@@ -14,7 +14,6 @@ ghost use Rattle.any_tlb.specs.Steady.{IsSteady, IsSteadyFetch, IsSteadyReach};
 ghost use Rattle.tlb_watch.specs.declared.hart_address.HartAddress.{HartAddress as Place};
 ghost use Rattle.tlb_watch.specs.Effects.{effect_on};
 ghost use Rattle.tlb_watch.specs.Tracked.{IsTracking};
-ghost use Rattle.tlb_watch.specs.Watched.{WatchedAddress};
 ghost use Rattle.access_marks.specs.Inside.Accessed.{IsPresent, IsWatched};
 ghost use Rattle.access_marks.specs.Inside.Changes.{SaysWritten};
 ghost use Rattle.access_marks.specs.Inside.Following.{IsNext};
@@ -23,10 +22,10 @@ ghost use Rattle.access_marks.specs.Marks.{IsMarkedAs, IsMarkedStep};
 
 use crate::call_step::CallStep;
 use crate::changes::{Written, changed, written_by};
-use crate::effects::{effect_of, is_quiet, satps};
 use crate::entry_use::EntryUse;
 use crate::marks::Marks;
 use crate::missing::UseWatches;
+use crate::registers::satps;
 use crate::taking::takes;
 use crate::words::{WordNote, differs, note_change, note_effect};
 use any_tlb::{missed_is_stale, watched_words_decide};
@@ -37,8 +36,8 @@ use std::alloc::{AllocError, Global};
 use std::marker::Model;
 use tlb_model::Tlb;
 use tlb_watch::{
-    CacheEffect, HartAddress, Tracker, first_watches_are_watches, is_stale,
-    trackers_follow_histories, trackers_outlast_quiet_events,
+    CacheEffect, HartAddress, Tracker, effect_of, first_watches_are_watches, is_quiet, is_stale,
+    quiet_operations_have_no_effect, trackers_follow_histories, trackers_outlast_quiet_events,
 };
 
 /// A board at a place of a record, and what its harts' caches may hold there for the addresses that the record accesses.
@@ -332,7 +331,6 @@ fn track(
     op: Op,
     effect: CacheEffect,
 ) -> Result<Tracker, AllocError>
-    requires { All (λ (w : WatchedAddress). w.at.hart < board.now.opening.config.harts) tracker }
     ensures { IfOk result (λ after. (event : Step) (past : List Step) (addresses : List Place)
         → board.now.past ≡ event ∷ past
         → event.op ≡ op
@@ -340,6 +338,7 @@ fn track(
         → IsTracking board.now.opening past addresses tracker
         → IsTracking board.now.opening (event ∷ past) addresses after) }
 {
+    quiet_operations_have_no_effect();
     trackers_outlast_quiet_events();
     trackers_follow_histories();
     if is_quiet(op) {

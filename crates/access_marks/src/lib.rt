@@ -4,13 +4,13 @@
 mod accessed;
 mod call_step;
 mod changes;
-mod effects;
 mod entry_use;
 mod followed;
 mod laws;
 mod marking;
 mod marks;
 mod missing;
+mod registers;
 mod taking;
 mod use_watch;
 mod words;

@@ -1,6 +1,7 @@
 //! Words of which an instruction cache may hold another than the memory's.
 ghost use Rattle.std.specs.Prelude.{◌≡◌, IfOk};
 ghost use Rattle.tlb_watch.specs.declared.effect.CacheEffect.TheVariants.{Applied};
+ghost use Rattle.access_marks.specs.declared.words.WordNote.TheVariants.{Changed, Fenced};
 ghost use Rattle.access_marks.specs.Inside.Words.{differs, differs_by, is_note, with_change, with_effect, with_note};
 
 use std::alloc::AllocError;
@@ -81,10 +82,29 @@ fn note(notes: &mut Vec<WordNote>, note: WordNote) -> Result<(), AllocError>
 fn is_note(note: WordNote, other: WordNote) -> bool
     ensures { result ≡ is_note note other }
 {
-    match (note, other) {
-        (WordNote::Changed(at), WordNote::Changed(place)) => place == at,
-        (WordNote::Fenced(x), WordNote::Fenced(hart)) => hart == x,
-        _ => false,
+    match note {
+        WordNote::Changed(at) => is_change(at, other),
+        WordNote::Fenced(hart) => is_fence(hart, other),
+    }
+}
+
+/// Whether a note is that the word at this physical address changed.
+fn is_change(at: u128, note: WordNote) -> bool
+    ensures { result ≡ is_note (Changed at) note }
+{
+    match note {
+        WordNote::Changed(place) => place == at,
+        WordNote::Fenced(_) => false,
+    }
+}
+
+/// Whether a note is of a FENCE.I at this hart.
+fn is_fence(hart: u64, note: WordNote) -> bool
+    ensures { result ≡ is_note (Fenced hart) note }
+{
+    match note {
+        WordNote::Changed(_) => false,
+        WordNote::Fenced(other) => other == hart,
     }
 }
 

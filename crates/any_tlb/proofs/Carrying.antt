@@ -126,6 +126,10 @@ module _ (o : Opening) (older : List Event) (opened : IsOpened o) where
       let memory_now = memories (event ∷ newer) legal in
       λ i. spared_words (done i) (before i) ++ word_or_none (memory_now i pa)
 
+pub effects_go_on_over_cuts : (o : Opening) (newer older : List Event) (event : Event) (h : ℕ) → IsOpened o → IsLegal o (newer ++ older)
+    → effect_at (opening_of o older) newer event h ≡ effect_at o (newer ++ older) event h
+effects_go_on_over_cuts o newer older event h opened legal = effects o older opened newer legal event h
+
 pub watched_go_on_over_cuts : (o : Opening) (newer older : List Event) (h va : ℕ) → IsOpened o → IsLegal o (newer ++ older) → h < o.config.harts
     → watched_from (watched o older h va) (walks_of o older h) (opening_of o older) newer h va ≡ watched o (newer ++ older) h va
 watched_go_on_over_cuts o newer older h va opened legal inside = watched-on o older opened newer legal h va inside

@@ -6,8 +6,17 @@ ghost use Rattle.board_core.specs.Opening.{Opening};
 ghost use Rattle.board_core.specs.Replies.{IsLegal};
 ghost use Rattle.board_laws.specs.Seams.{AreLegal, joined, left_by};
 ghost use Rattle.any_tlb.specs.Carried.{watched_from, watched_words_from};
+ghost use Rattle.any_tlb.specs.Effects.{effect_at};
 ghost use Rattle.any_tlb.specs.Watch.{walks_of, watched};
 ghost use Rattle.any_tlb.specs.WatchedWords.{watched_words};
+
+/// Wherever a legal history is cut, an event does the same to the caches of each hart, whatever they keep.
+pub fn effects_go_on_over_cuts()
+    ensures { (o : Opening) (newer older : List Event) (event : Event) (h : ℕ)
+        → IsOpened o
+        → IsLegal o (newer ++ older)
+        → effect_at (opening_of o older) newer event h ≡ effect_at o (newer ++ older) event h }
+{}
 
 /// Wherever a legal history is cut, the watched entries continue: from those of the older events, and from the log of
 /// their walks, the newer events give the list that all events give without the cut. So it decides which accesses are

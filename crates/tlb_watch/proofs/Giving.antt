@@ -1,6 +1,6 @@
 -- What logs of walks give.
 use Rattle.std.proofs.Common.{◌≡◌, ℕ, Bool, true, false, not, List, [], ◌∷◌, ◌++◌, refl, subst, ◌∙◌, inl, inr, cond, Option, Result, Ok, Err}
-use Rattle.std.specs.Prelude.{◌⊎◌, ◌==◌, IfOk}
+use Rattle.std.specs.Prelude.{◌⊎◌, ◌==◌, filter, IfOk}
 use Rattle.std.proofs.lemmas.Bool.{eqb-true}
 use Rattle.rfence.specs.Applied.{Effect, Nothing, Drops, Empties}
 use Rattle.tlb_model.specs.declared.fence.Flush.{Flush}
@@ -10,10 +10,18 @@ use Rattle.any_tlb.specs.declared.watcher.Walking.TheVariants.{Had, Fenced}
 use Rattle.any_tlb.specs.Possible.{leaves_no_copy}
 use Rattle.any_tlb.specs.Watch.{entries_left, given_by, given_for, logged, spared}
 use Rattle.tlb_watch.specs.declared.hart_address.HartAddress.{HartAddress}
-use Rattle.tlb_watch.specs.Inside.Kept.{others}
 use Rattle.tlb_watch.specs.Sets.{HaveSameMembers, IsIn}
 use Rattle.tlb_watch.specs.Watched.{GiveTheSame, WatchTheSame, WatchedAddress, after_event}
 use Rattle.tlb_watch.proofs.Members.{in-cases, in-filter, in-left, in-right, out-filter, same-by, same-filtered, same-joined, same-on, same-self}
+
+-- whether a log's entry says that the hart had this satp
+abbrev is_had : (satp : ℕ) → Walking → Bool
+is_had satp (Had other) = other == satp
+is_had satp (Fenced flush) = false
+
+-- the other entries of a log
+abbrev pub others : (satp : ℕ) → List Walking → List Walking
+others satp walks = filter (λ walking. not (is_had satp walking)) walks
 
 -- whether a fence leaves an entry
 abbrev pub left_by : Flush → Entry → Bool

@@ -4,3 +4,10 @@ pub mod Tracking
 pub mod Staling
 pub mod Quieting
 pub mod Lists
+pub mod Leaves
+pub mod Flushes
+pub mod Logging
+pub mod Keeping
+pub mod Deciding
+pub mod QuietOps
+pub mod EventActors

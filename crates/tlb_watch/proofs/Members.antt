@@ -1,8 +1,7 @@
 -- Members of lists, through appending and filtering.
-use Rattle.std.proofs.Common.{◌≡◌, ℕ, ◌+◌, ◌<◌, Bool, true, false, List, [], ◌∷◌, ◌++◌, length, take, get_or, refl, sym, subst, ap, ◌∙◌, inl, inr, cond, append_assoc}
+use Rattle.std.proofs.Common.{◌≡◌, Bool, true, false, List, [], ◌∷◌, ◌++◌, refl, sym, subst, ap, ◌∙◌, inl, inr, cond}
 use Rattle.std.specs.Prelude.{◌⊎◌, filter}
 use Rattle.std.specs.List.{All, Contains}
-use Rattle.std.proofs.lemmas.List.{take_more}
 use Rattle.std.proofs.lemmas.List.Elements.{All-cons, All-contains, All-head, All-nil, All-tail}
 use Rattle.tlb_watch.specs.Sets.{HaveSameMembers, IsIn}
 
@@ -102,16 +101,8 @@ module _ {A : Type 0} where
   pub all-same : (P : A → Type 0) (xs ys : List A) → HaveSameMembers xs ys → All P ys → All P xs
   all-same P xs ys same all = all-in P xs (λ x there. in-all P ys x all ((same x).0 there))
 
-  -- ---- a loop that adds what isn't there yet
-
   pub contained : (xs : List A) (x : A) → Contains xs x → IsIn xs x
   contained xs x there = All-contains (IsIn xs) xs x (all-in (IsIn xs) xs (λ y there. there)) there
-
-  pub in-at : (xs : List A) (i : ℕ) (x : A) → i < length xs → get_or xs i x ≡ x → IsIn xs x
-  in-at xs i x inside is = contained xs x (i, inside, is)
-
-  pub put-one : (xs ys : List A) (x : A) → HaveSameMembers xs ys → HaveSameMembers (xs ++ x ∷ []) (ys ++ x ∷ [])
-  put-one xs ys x same = same-joined xs ys (x ∷ []) (x ∷ []) same (same-self (x ∷ []))
 
   pub has-one : (xs ys : List A) (x : A) → IsIn xs x → HaveSameMembers xs ys → HaveSameMembers xs (ys ++ x ∷ [])
   has-one xs ys x here same y = (λ there. in-left ys (x ∷ []) y ((same y).0 there), λ there. by_side (in-cases ys (x ∷ []) y there))
@@ -120,15 +111,3 @@ module _ {A : Type 0} where
       by_side (inl there) = (same y).1 there
       by_side (inr (inl is)) = subst (λ (z : A). IsIn xs z) is here
       by_side (inr (inr none)) = absurd none
-
-  one-more : (old given : List A) (i : ℕ) (x : A) → i < length given → x ≡ get_or given i x → (old ++ take i given) ++ x ∷ [] ≡ old ++ take (i + 1) given
-  one-more old given i x inside is =
-      append_assoc old (take i given) (x ∷ []) ∙ ap (λ (l : List A). old ++ l) (ap (λ (z : A). take i given ++ z ∷ []) is ∙ sym (take_more given i x inside))
-
-  pub put-more : (xs old given : List A) (i : ℕ) (x : A) → i < length given → x ≡ get_or given i x → HaveSameMembers xs (old ++ take i given)
-      → HaveSameMembers (xs ++ x ∷ []) (old ++ take (i + 1) given)
-  put-more xs old given i x inside is same = subst (λ (l : List A). HaveSameMembers (xs ++ x ∷ []) l) (one-more old given i x inside is) (put-one xs (old ++ take i given) x same)
-
-  pub has-more : (xs old given : List A) (i : ℕ) (x : A) → i < length given → x ≡ get_or given i x → IsIn xs x → HaveSameMembers xs (old ++ take i given)
-      → HaveSameMembers xs (old ++ take (i + 1) given)
-  has-more xs old given i x inside is here same = subst (λ (l : List A). HaveSameMembers xs l) (one-more old given i x inside is) (has-one xs (old ++ take i given) x here same)

@@ -1,10 +1,7 @@
 -- Events after which what is watched is like before.
-use Rattle.std.proofs.Common.{◌≡◌, ℕ, Bool, not, List, [], ◌∷◌, ◌++◌, refl, sym, ap, subst, ◌∙◌, inl, inr}
-use Rattle.std.specs.Prelude.{◌⊎◌, Option, filter}
-use Rattle.std.specs.List.{All}
+use Rattle.std.proofs.Common.{◌≡◌, ℕ, List, [], ◌∷◌, ◌++◌, refl, sym, ap, subst, ◌∙◌, inl, inr}
+use Rattle.std.specs.Prelude.{◌⊎◌, Option}
 use Rattle.std.proofs.lemmas.List.Elements.{All-weaker}
-use Rattle.rfence.specs.Applied.{Effect, Nothing}
-use Rattle.tlb_model.specs.declared.fence.Flush.{Flush}
 use Rattle.tlb_model.specs.Entries.{Entry}
 use Rattle.board_core.specs.History.{Event}
 use Rattle.board_core.specs.Memory.{memory, satp}

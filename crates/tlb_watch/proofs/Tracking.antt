@@ -103,13 +103,12 @@ tracked-first c addresses present = record { are = same addresses; present = pre
 
 -- ---- what a watch says
 
-pub decided : (o : Opening) (past : List Event) (addresses : List HartAddress) (watches : List WatchedAddress) (w : WatchedAddress) (at : HartAddress) (now : ℕ → Option ℕ) (n : ℕ) (kind : Kind) (says : Bool)
-    → IsTracking o past addresses watches → Contains watches w → w.at ≡ at → now ≡ memory o past → n ≡ satp o past at.hart
+pub decided-like : (o : Opening) (past : List Event) (w : WatchedAddress) (at : HartAddress) (now : ℕ → Option ℕ) (n : ℕ) (kind : Kind) (says : Bool)
+    → WatchTheSame w (watch_of o past w.at) → w.at ≡ at → now ≡ memory o past → n ≡ satp o past at.hart
     → (WatchedAgree o past at.hart at.address kind ↔ IsSteady o past at.hart at.address kind)
     → (IsTrue says ↔ (IsTranslated n w.at.address → All (AgreesWithTables now n w.at.address kind) w.entries))
     → IsTrue says ↔ IsSteady o past at.hart at.address kind
-decided o past addresses watches w at now n kind says tracks there same ram register decides answered =
-    let like = All-contains (λ (w : WatchedAddress). WatchTheSame w (watch_of o past w.at)) watches w tracks.each there in
+decided-like o past w at now n kind says like same ram register decides answered =
     let members : HaveSameMembers w.entries (watched o past at.hart at.address) = subst (λ (at : HartAddress). HaveSameMembers w.entries (watched o past at.hart at.address)) same like.entries in
     let Agrees : Entry → Type 0 = AgreesWithTables (memory o past) (satp o past at.hart) at.address kind in
     let answer : IsTrue says ↔ (IsTranslated (satp o past at.hart) at.address → All Agrees w.entries) =
@@ -119,6 +118,14 @@ decided o past addresses watches w at now n kind says tracks there same ram regi
       λ holds. decides.0 (λ translated. all-same Agrees (watched o past at.hart at.address) w.entries (same-turned w.entries (watched o past at.hart at.address) members) (answer.0 holds translated)),
       λ steady. answer.1 (λ translated. all-same Agrees w.entries (watched o past at.hart at.address) members (decides.1 steady translated)),
     )
+
+pub decided : (o : Opening) (past : List Event) (addresses : List HartAddress) (watches : List WatchedAddress) (w : WatchedAddress) (at : HartAddress) (now : ℕ → Option ℕ) (n : ℕ) (kind : Kind) (says : Bool)
+    → IsTracking o past addresses watches → Contains watches w → w.at ≡ at → now ≡ memory o past → n ≡ satp o past at.hart
+    → (WatchedAgree o past at.hart at.address kind ↔ IsSteady o past at.hart at.address kind)
+    → (IsTrue says ↔ (IsTranslated n w.at.address → All (AgreesWithTables now n w.at.address kind) w.entries))
+    → IsTrue says ↔ IsSteady o past at.hart at.address kind
+decided o past addresses watches w at now n kind says tracks there same ram register decides answered =
+    decided-like o past w at now n kind says (All-contains (λ (w : WatchedAddress). WatchTheSame w (watch_of o past w.at)) watches w tracks.each there) same ram register decides answered
 
 pub unwatched : (o : Opening) (past : List Event) (addresses : List HartAddress) (watches : List WatchedAddress) (at : HartAddress) → IsTracking o past addresses watches
     → (Contains (addresses_of watches) at → ⊥) → Contains addresses at → ⊥

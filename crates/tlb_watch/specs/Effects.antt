@@ -1,16 +1,18 @@
 -- What an event does to the caches of each hart, from what its hart had before it.
-use Rattle.std.specs.Prelude.{◌≡◌, ℕ, ◌==◌, List, [], ◌∷◌, if◌then◌else◌, Option, Some, None}
+use Rattle.std.specs.Prelude.{◌≡◌, ℕ, ◌==◌, nat_lt, Bool, true, List, [], ◌∷◌, if◌then◌else◌, Option, Some, None}
 use Rattle.fence_queue.specs.declared.request.Request.{Request}
 use Rattle.hsm.specs.States.{is_interruptible}
 use Rattle.rfence.specs.Applied as applied
 use Rattle.rfence.specs.Applied.{Effect, Drops, Empties, effect}
 use Rattle.rfence.specs.Turns.{Turn}
 use Rattle.tlb_model.specs.declared.fence.Flush.{Flush}
+use Rattle.board_terms.specs.declared.op.Actor.{Actor}
+use Rattle.board_terms.specs.declared.op.Actor.TheVariants.{Hart, Clock}
 use Rattle.board_core.specs.Fences.{turns, waiting}
 use Rattle.board_core.specs.History.{Event}
 use Rattle.board_core.specs.Opening.{Opening}
 use Rattle.board_core.specs.States.{state}
-use Rattle.any_tlb.specs.Effects.{effect_by}
+use Rattle.any_tlb.specs.Effects.{effect_at, effect_by}
 use Rattle.tlb_watch.specs.declared.effect.CacheEffect.{CacheEffect}
 use Rattle.tlb_watch.specs.declared.effect.CacheEffect.TheVariants.{Nothing, Applied, Reset}
 use Rattle.tlb_watch.specs.declared.ready.Ready.{Ready}
@@ -34,3 +36,13 @@ first_flush (request ∷ requests) = Some request.flush
 pub record IsReady (o : Opening) (past : List Event) (ready : Ready) : Type 0 where
   pub first : ready.first ≡ first_flush (waiting o past ready.hart)
   pub is_reached : ready.is_reached ≡ is_interruptible (state o past ready.hart)
+
+-- whether the actor is the clock, or one of so many harts
+abbrev pub is_there : (harts : ℕ) → Actor → Bool
+is_there harts (Hart x) = nat_lt x harts
+is_there harts Clock = true
+
+-- what an event does to the caches of hart h, if its actor is there
+abbrev pub effect_there : Opening → List Event → Event → (h : ℕ) → Effect Flush
+effect_there o past event h =
+    if is_there o.config.harts event.actor then effect_at o past event h else applied.Nothing

@@ -1,5 +1,7 @@
 pub mod Sets
 pub mod Effects
+pub mod QuietOps
 pub mod Watched
 pub mod Tracked
-pub mod Inside
+pub mod Kept
+pub mod Deciding

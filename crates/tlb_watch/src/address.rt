@@ -4,15 +4,17 @@ ghost use Rattle.std.specs.List.{All};
 ghost use Rattle.sv39.specs.Memory.{word_in};
 ghost use Rattle.hart_access.specs.Translations.{IsTranslated};
 ghost use Rattle.any_tlb.specs.declared.watcher.Walking.TheVariants.{Had};
-ghost use Rattle.any_tlb.specs.Watch.{AgreesWithTables, logged, spared};
+ghost use Rattle.any_tlb.specs.Watch.{AgreesWithTables, spared};
+ghost use Rattle.tlb_watch.specs.Deciding.{all_agree};
 ghost use Rattle.tlb_watch.specs.Effects.{effect_on};
+ghost use Rattle.tlb_watch.specs.Kept.{kept_after, logged_once};
 ghost use Rattle.tlb_watch.specs.Tracked.{first_watch};
 ghost use Rattle.tlb_watch.specs.Watched.{WatchTheSame, after_event, looked};
 
 use crate::effect::CacheEffect;
 use crate::hart_address::HartAddress;
-use crate::kept::renew;
-use any_tlb::{EntryWatch, Walks};
+use crate::kept::{log_fence, renew};
+use any_tlb::{EntryWatch, Walking, Walks};
 use std::alloc::{AllocError, Global};
 use std::marker::Model;
 use sv39::{Kind, Ram, Satp};
@@ -78,6 +80,25 @@ impl AddressWatch {
         Ok(AddressWatch { at, walks, entries })
     }
 
+    /// A copy.
+    ///
+    /// # Errors
+    ///
+    /// Out of memory.
+    pub fn try_copy(&self, alloc: Global) -> Result<AddressWatch, AllocError>
+        ensures { IfOk result (λ copy. copy ≡ self.now) }
+    {
+        let mut walks = Walks::new(alloc);
+        walks.items.extend_from_slice(&self.walks.items)?;
+        let mut entries = EntryWatch::new(alloc, self.entries.va);
+        entries.entries.extend_from_slice(&self.entries.entries)?;
+        Ok(AddressWatch {
+            at: self.at,
+            walks,
+            entries,
+        })
+    }
+
     /// The address and its hart.
     pub fn at(&self) -> HartAddress
         ensures { result ≡ self.now.at }
@@ -85,8 +106,22 @@ impl AddressWatch {
         self.at
     }
 
+    /// What happened to the hart's walks.
+    pub fn walks(&self) -> &[Walking]
+        ensures { result.now ≡ self.now.walks }
+    {
+        &self.walks.items
+    }
+
+    /// The entries.
+    pub fn entries(&self) -> &[Entry]
+        ensures { result.now ≡ self.now.entries }
+    {
+        &self.entries.entries
+    }
+
     /// An event with this effect happened. The RAM and the hart's satp are those after it. What is watched is kept as sets: each
-    /// entry and each satp once.
+    /// entry, each satp and each fence once.
     ///
     /// # Errors
     ///
@@ -98,8 +133,24 @@ impl AddressWatch {
         ram: &Ram,
         satp: Satp,
     ) -> Result<(), AllocError>
+        ensures kept { IfOk result (λ _. self.new
+            ≡ kept_after (effect_on effect self.old.at.hart) (word_in ram.now) satp self.old) }
         ensures after { IfOk result (λ _. WatchTheSame self.new
             (after_event (effect_on effect self.old.at.hart) (word_in ram.now) satp self.old)) }
+    {
+        self.keep(alloc, effect, ram, satp)
+    }
+
+    /// The same, by what is kept.
+    fn keep(
+        &mut self,
+        alloc: Global,
+        effect: CacheEffect,
+        ram: &Ram,
+        satp: Satp,
+    ) -> Result<(), AllocError>
+        ensures { IfOk result (λ _. self.new
+            ≡ kept_after (effect_on effect self.old.at.hart) (word_in ram.now) satp self.old) }
     {
         self.apply(effect)?;
         renew(alloc, &mut self.walks, &mut self.entries, ram, satp)
@@ -108,7 +159,7 @@ impl AddressWatch {
     /// Drops what the effect ends at the hart, and notes it for walks.
     fn apply(&mut self, effect: CacheEffect) -> Result<(), AllocError>
         ensures at { IfOk result (λ _. self.new.at ≡ self.old.at) }
-        ensures walks { IfOk result (λ _. self.new.walks ≡ logged (effect_on effect self.old.at.hart) self.old.walks) }
+        ensures walks { IfOk result (λ _. self.new.walks ≡ logged_once (effect_on effect self.old.at.hart) self.old.walks) }
         ensures entries { IfOk result
             (λ _. self.new.entries ≡ spared (effect_on effect self.old.at.hart) self.old.entries) }
     {
@@ -116,7 +167,7 @@ impl AddressWatch {
             CacheEffect::Nothing => {}
             CacheEffect::Applied(hart, flush) => {
                 if hart == self.at.hart {
-                    self.walks.fence(flush)?;
+                    log_fence(&mut self.walks, flush)?;
                     self.entries.fence(flush);
                 }
             }
@@ -131,8 +182,9 @@ impl AddressWatch {
     /// Whether an access of this kind to the address is steady, with this RAM and the hart's satp: each watched entry that matches
     /// gives it what the page tables give.
     pub fn is_steady(&self, ram: &Ram, satp: Satp, kind: Kind) -> bool
-        ensures { IsTrue result ↔ (IsTranslated satp self.now.at.address
+        ensures decides { IsTrue result ↔ (IsTranslated satp self.now.at.address
             → All (AgreesWithTables (word_in ram.now) satp self.now.at.address kind) self.now.entries) }
+        ensures is { result ≡ all_agree (word_in ram.now) satp self.now.at.address kind self.now.entries }
     {
         !is_translated(satp, self.at.address) || self.entries.is_steady(ram, satp, kind)
     }

@@ -3,6 +3,7 @@
 
 mod address;
 mod effect;
+mod events;
 mod hart_address;
 mod kept;
 mod laws;
@@ -12,11 +13,12 @@ mod tracker;
 
 pub use address::AddressWatch;
 pub use effect::CacheEffect;
+pub use events::{effect_of, effect_seen, is_quiet, quiet_operations_have_no_effect};
 pub use hart_address::HartAddress;
 pub use laws::{
-    first_watches_are_watches, trackers_follow_histories, trackers_outlast_quiet_events,
-    watches_follow_histories,
+    first_watches_are_watches, kept_watches_are_watches, trackers_follow_histories,
+    trackers_outlast_quiet_events, watches_decide, watches_follow_histories,
 };
 pub use ready::Ready;
-pub use stale::is_stale;
+pub use stale::{is_stale, is_stale_use};
 pub use tracker::Tracker;

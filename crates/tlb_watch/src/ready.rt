@@ -11,7 +11,7 @@ ghost use Rattle.board_core.specs.Opening.{Opening, on};
 ghost use Rattle.tlb_watch.specs.Effects.{IsReady, effect_on, first_flush, turn_effect};
 
 use crate::effect::CacheEffect;
-use board_core::{Board, Config, Op, Reply};
+use board_core::{Board, Config, Op, Reply, View};
 use hart_mask::targets;
 use sbi_abi::call::{RfenceCall, SrstCall};
 use sbi_abi::{Call, SbiError, decode};
@@ -36,10 +36,19 @@ impl Ready {
         ensures hart { result.hart ≡ hart }
         ensures ready { IsReady board.now.opening board.now.past result }
     {
+        Ready::seen(&board.view(), hart)
+    }
+
+    /// The same of a board that is viewed.
+    pub fn seen(view: &View<'_>, hart: u64) -> Ready
+        requires { hart < view.now.opening.config.harts }
+        ensures hart { result.hart ≡ hart }
+        ensures ready { IsReady view.now.opening view.now.past result }
+    {
         Ready {
             hart,
-            first: first_waiting(board, hart),
-            is_reached: board.state(hart).is_interruptible(),
+            first: first_waiting(view, hart),
+            is_reached: view.state(hart).is_interruptible(),
         }
     }
 
@@ -151,11 +160,11 @@ impl Ready {
 }
 
 /// What the first fence that waits at the hart drops.
-fn first_waiting(board: &Board, hart: u64) -> Option<Flush>
-    requires { hart < board.now.opening.config.harts }
-    ensures { result ≡ first_flush (waiting board.now.opening board.now.past hart) }
+fn first_waiting(view: &View<'_>, hart: u64) -> Option<Flush>
+    requires { hart < view.now.opening.config.harts }
+    ensures { result ≡ first_flush (waiting view.now.opening view.now.past hart) }
 {
-    let mut waiting = board.waiting(hart);
+    let mut waiting = view.waiting(hart);
     let request = waiting.next()?;
     Some(request.flush)
 }

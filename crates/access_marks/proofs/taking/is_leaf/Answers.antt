@@ -1,5 +1,5 @@
 use Rattle.std.proofs.Common.{sym, ◌∙◌}
-use Rattle.access_marks.proofs.Leaves.{leaves-decide}
+use Rattle.tlb_watch.proofs.Leaves.{leaves-decide}
 use Rattle.access_marks.proofs.taking.is_leaf.Goals as goal
 
 pub returns : goal.returns

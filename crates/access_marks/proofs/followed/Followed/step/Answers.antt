@@ -8,7 +8,6 @@ use Rattle.any_tlb.specs.Effects.{effect_at}
 use Rattle.tlb_watch.specs.declared.hart_address.HartAddress.{HartAddress}
 use Rattle.tlb_watch.specs.Effects.{effect_on}
 use Rattle.tlb_watch.specs.Tracked.{IsTracking, addresses_of}
-use Rattle.tlb_watch.specs.Watched.{WatchedAddress}
 use Rattle.access_marks.specs.Inside.Accessed.{IsPresent}
 use Rattle.access_marks.specs.Inside.Changes.{SaysWritten}
 use Rattle.access_marks.specs.Inside.Following.{Following, IsNext}
@@ -16,18 +15,8 @@ use Rattle.access_marks.specs.declared.use_watch.UseWatch.{UseWatch}
 use Rattle.access_marks.specs.Inside.Calls.{step_of}
 use Rattle.access_marks.specs.Inside.Missing.{IsKept, call_step}
 use Rattle.access_marks.specs.Inside.Words.{AreNoted}
-use Rattle.access_marks.proofs.Following.{all-there, of-own}
+use Rattle.access_marks.proofs.Following.{does, of-own}
 use Rattle.access_marks.proofs.followed.Followed.step.Goals as goal
-
-pub effect_of-effect-requires : goal.effect_of-effect-requires
-effect_of-effect-requires c = subst (λ (f : Following). IsPresent f.course.opening.config.harts c.args.event.now.actor) (sym c.self.view_is) c.requires
-
-pub track-requires : goal.track-requires
-track-requires c =
-    let b = c.self.inside.board in
-    let grew = c.takes.ensures.after c.if-not-takes.false in
-    subst (λ (b : Course). All (λ (w : WatchedAddress). w.at.hart < b.opening.config.harts) c.self.inside.tracker) (sym grew)
-    (all-there b.opening.config.harts c.self.inside.tracker c.self.invariant.0.present)
 
 pub happened-requires : goal.happened-requires
 happened-requires c =
@@ -44,13 +33,15 @@ invariant_of-result c =
     let tracker = c.self.inside.tracker in
     let after = c.in_ok-tracker.tracker in
     let grew = c.takes.ensures.after c.if-not-takes.false in
+    let present = subst (λ (f : Following). IsPresent f.course.opening.config.harts event.actor) (sym c.self.view_is) c.requires in
+    let says = does b.opening b.past event c.effect_of-effect.result present c.effect_of-effect.ensures in
     let tracks = subst (λ (b : Course). (event : Event) (past : List Event) (addresses : List HartAddress) → b.past ≡ event ∷ past → event.op ≡ c.op.result
     → ((h : ℕ) → effect_on c.effect_of-effect.result h ≡ effect_at b.opening past event h) → IsTracking b.opening past addresses tracker → IsTracking b.opening (event ∷ past) addresses after)
-    grew c.in_ok-tracker.ensures event b.past (addresses_of tracker) refl (sym c.op.ensures) c.effect_of-effect.ensures c.self.invariant.0 in
+    grew c.in_ok-tracker.ensures event b.past (addresses_of tracker) refl (sym c.op.ensures) says c.self.invariant.0 in
     let notes = subst (λ (b : Course). (event : Event) (past : List Event) → b.past ≡ event ∷ past → SaysWritten b.opening past event c.written_by-word.result
     → ((h : ℕ) → effect_on c.effect_of-effect.result h ≡ effect_at b.opening past event h) → AreNoted b.opening past c.self.inside.notes.items → AreNoted b.opening (event ∷ past) c.note.new.notes.items)
     grew c.in_ok-note.ensures event b.past refl
-    (subst (λ (b : Course). SaysWritten b.opening b.past event c.written_by-word.result) c.view.ensures c.written_by-word.ensures) c.effect_of-effect.ensures c.self.invariant.1 in
+    (subst (λ (b : Course). SaysWritten b.opening b.past event c.written_by-word.result) c.view.ensures c.written_by-word.ensures) says c.self.invariant.1 in
     let step : c.of-call.result ≡ call_step b.opening event = c.of-call.ensures ∙ ap (λ (k : Config). step_of k event.actor event.op event.reply) c.config.ensures.config in
     let watches = c.in_ok-uses.uses.watches.items in
     let kept = subst (λ (b : Course). (event : Event) (past : List Event) → b.past ≡ event ∷ past → c.of-call.result ≡ call_step b.opening event
@@ -74,9 +65,11 @@ returns c =
     let tracker = c.self.inside.tracker in
     let after = c.in_ok-tracker.tracker in
     let grew = c.takes.ensures.after c.if-not-takes.false in
+    let present = subst (λ (f : Following). IsPresent f.course.opening.config.harts event.actor) (sym c.self.view_is) c.requires in
+    let says = does b.opening b.past event c.effect_of-effect.result present c.effect_of-effect.ensures in
     let tracks = subst (λ (b : Course). (event : Event) (past : List Event) (addresses : List HartAddress) → b.past ≡ event ∷ past → event.op ≡ c.op.result
     → ((h : ℕ) → effect_on c.effect_of-effect.result h ≡ effect_at b.opening past event h) → IsTracking b.opening past addresses tracker → IsTracking b.opening (event ∷ past) addresses after)
-    grew c.in_ok-tracker.ensures event b.past (addresses_of tracker) refl (sym c.op.ensures) c.effect_of-effect.ensures c.self.invariant.0 in
+    grew c.in_ok-tracker.ensures event b.past (addresses_of tracker) refl (sym c.op.ensures) says c.self.invariant.0 in
     let course = grew ∙ ap (λ (f : Following). record { opening = f.course.opening; past = event ∷ f.course.past }) c.self.view_is in
     let addresses = tracks.are ∙ ap (λ (f : Following). f.addresses) c.self.view_is in (
       subst (λ (f : Following). IsNext f.course.opening f.course.past event) c.self.view_is (c.takes.ensures.is.0 c.if-not-takes.false),
