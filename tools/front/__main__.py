@@ -15,7 +15,7 @@ from dataclasses import replace
 import usage
 from builds import NotBuilt, build, is_current, program_of
 from checked_run import run_unproved
-from commands import ALL, ALONE, COMPLETIONS, EXPLAIN, HELP, HTML, INSTALL, IS_INSTALLED, KNOWN, PROGRAM, TESTER, VERSION, version
+from commands import ALL, ALONE, ASSEMBLY, COMPLETIONS, EXPLAIN, EXPLORE, EXPLORE_ASSEMBLY, HELP, HTML, INSTALL, IS_INSTALLED, KNOWN, PROGRAM, VERSION, version
 from completions import SHELLS
 from installing import install
 from kinds import kind_of, why_unread
@@ -82,6 +82,7 @@ def done(words):
     if is_tried:
         known, words = replace(ALL, name="sbiboard --try", options=(HELP, VERSION)), words[1:]
     command, given, rest = usage.read(known, words)
+    command = of_assembly(command, given)
     own = ["sbiboard", command.word] if command.program == PROGRAM else [command.name]
     call = [it.encode() for it in [*own, *rest]]
     program = program_of(command.program, "tried" if is_tried else None)
@@ -145,10 +146,26 @@ def installed(folder):
 # ---- FILEs
 
 
+def of_assembly(command, given):
+    """The task, of programs in assembly if its FILEs are such."""
+    names = [it for it in given[""] if it.endswith(ASSEMBLY)]
+    if not names:
+        return command
+    if command != EXPLORE:
+        raise Ended(BAD_SCRIPT, f"sbiboard: {names[0]}: explore takes programs in assembly, {command.word} doesn't\n")
+    others = [it for it in given[""] if it not in names]
+    if others:
+        raise Ended(USAGE, f"sbiboard: {others[0]}: no program in assembly, and so not beside {names[0]}\n")
+    unknown = [it for it in command.options if it.name in given and it not in EXPLORE_ASSEMBLY.options]
+    if unknown:
+        raise Ended(USAGE, f"sbiboard: --{unknown[0].name} doesn't take programs in assembly, such as {names[0]}\n")
+    return EXPLORE_ASSEMBLY
+
+
 def look_at(command, given):
     """Looks at the FILEs of a task before its program is made. What the program can't do with them isn't worth a build."""
     files = given[""]
-    if command.program == TESTER:
+    if command.program != PROGRAM:
         files = [it for it in files if it != "-"]
         wrong = [f"sbiboard: {it}: {why}\n" for it in files if (why := why_untested(command, it))]
         if wrong:

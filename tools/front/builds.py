@@ -9,7 +9,7 @@ import sys
 import tempfile
 import time
 
-from commands import IS_INSTALLED, PROGRAM, ROOT, TESTER
+from commands import ASSEMBLER, IS_INSTALLED, PROGRAM, ROOT, TESTER
 
 # What a program is made of, in each crate.
 PARTS = ("src", "specs", "proofs")
@@ -95,7 +95,7 @@ def longest_first(names, uses):
 
 
 # The programs of an installed copy.
-INSTALLED = {PROGRAM: "sbiboard-program", TESTER: "sbiboard-tester"}
+INSTALLED = {PROGRAM: "sbiboard-program", TESTER: "sbiboard-tester", ASSEMBLER: "sbiboard-assembly"}
 
 
 def program_of(crate, name=None):

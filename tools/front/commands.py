@@ -14,11 +14,13 @@ ROOT = os.path.dirname(os.path.dirname(HERE))
 TEXTS = os.path.join(os.path.dirname(HERE), "texts.json")
 IS_INSTALLED = os.path.exists(TEXTS)
 
-# The crates of the two programs.
-PROGRAM, TESTER = "sbiboard_cli", "sbiboard_test"
+# The crates of the programs: of `run`, `replay` and `check`, of `test` and `explore`, and of `explore` for programs in assembly.
+PROGRAM, TESTER, ASSEMBLER = "sbiboard_cli", "sbiboard_test", "asm_orders"
 
 # Where the texts below a help stand.
 OF_PROGRAM, OF_TESTER = "command_line/src/words.rt", "sbiboard_test/src/command_line.rt"
+# How the name of a program in assembly ends.
+ASSEMBLY = ".s"
 
 
 def constant(source, name):
@@ -180,7 +182,12 @@ EXPLORE = Command(
         Option("no-outcomes", "Don't report what each load gave last"),
         SECONDS, FAILED, TAP, *OF_POINTS, NEEDED, HELP,
     ),
-    (OF_TESTER, "AFTER_EXPLORE"), Option("", "Programs, with their conditions", value="FILE", is_many=True), TESTER, ("program",),
+    (OF_TESTER, "AFTER_EXPLORE"), Option("", "Programs, with their conditions", value="FILE", is_many=True), TESTER, ("program", "assembly"),
+)  # fmt: skip
+# What it knows where its FILEs are programs in assembly.
+EXPLORE_ASSEMBLY = replace(
+    EXPLORE, options=tuple(it for it in EXPLORE.options if it in (FAILED, TAP_VERSION, JSON, HELP) or it.name == "states"),
+    program=ASSEMBLER, kinds=("program", "schedule", "trace"),
 )  # fmt: skip
 
 # What `./sbiboard` knows.

@@ -2,7 +2,7 @@
 from commands import ALONE, HELP_COMMAND
 
 # How a file's name ends whose script is of a kind. The records of `test` and `explore` are traces.
-ENDINGS = {"schedule": ("sched",), "trace": ("trace", "failed", "reached"), "program": ("program",)}
+ENDINGS = {"schedule": ("sched",), "trace": ("trace", "failed", "reached"), "program": ("program",), "assembly": ("s",)}
 
 
 # ---- bash

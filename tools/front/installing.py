@@ -7,7 +7,7 @@ import re
 import shutil
 
 from builds import NotBuilt, build, is_current, program_of, remove
-from commands import HERE, INSTALLED, PROGRAM, TESTER, constants
+from commands import ASSEMBLER, HERE, INSTALLED, PROGRAM, TESTER, constants
 from completions import SHELLS
 from man_page import man_page
 
@@ -29,10 +29,12 @@ def install(folder):
     script = os.path.join(folder, "sbiboard")
     remove(script)
     put(program, os.path.join(folder, "sbiboard-program"))
-    copy = os.path.join(folder, "sbiboard-tester")
-    remove(copy)
-    if is_current(tester, TESTER):
-        put(tester, copy)
+    # (that of programs in assembly isn't built for this)
+    for crate, made, name in ((TESTER, tester, "sbiboard-tester"), (ASSEMBLER, program_of(ASSEMBLER), "sbiboard-assembly")):
+        copy = os.path.join(folder, name)
+        remove(copy)
+        if is_current(made, crate):
+            put(made, copy)
     put_tools(os.path.join(folder, "sbiboard-tools"))
     for ending, made in (*SHELLS.items(), ("1", man_page)):
         with open(os.path.join(folder, f"sbiboard.{ending}"), "w", encoding="utf-8") as file:

@@ -13,7 +13,7 @@ import tempfile
 import threading
 from concurrent.futures import ThreadPoolExecutor
 
-from commands import AT, DIFF, EXPLAIN, HTML, JSON, JUNIT, NEEDED, TAP_VERSION, TESTER
+from commands import AT, DIFF, EXPLAIN, HTML, JSON, JUNIT, NEEDED, PROGRAM, TAP_VERSION
 from kinds import MOST_BYTES, lines_of, why_unread
 
 # (what reads printed lines is of use where such an option is given alone)
@@ -48,7 +48,7 @@ def run_read(program, command, words, given):
             from needed import run_needed
 
             return run_needed(program, given)
-        if command.program == TESTER:
+        if command.program != PROGRAM:
             return Points(program, command, words, given).run()
         return Script(program, command, words, given).run()
     except OSError as error:

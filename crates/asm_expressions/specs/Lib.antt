@@ -1,0 +1,4 @@
+pub mod Symbols
+pub mod Operators
+pub mod Parts
+pub mod Values

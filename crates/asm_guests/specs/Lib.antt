@@ -1,0 +1,9 @@
+pub mod Listings
+pub mod States
+pub mod Csrs
+pub mod Local
+pub mod Operations
+pub mod Replies
+pub mod Guests
+pub mod Words
+pub mod Inside

@@ -1,0 +1,11 @@
+pub mod Steps
+pub mod Csrs
+pub mod Operands
+pub mod Ranges
+pub mod Shapes
+pub mod Compute
+pub mod Memory
+pub mod Jumps
+pub mod Supervisor
+pub mod Rules
+pub mod Sizes

@@ -1,0 +1,212 @@
+//! Reads a program in assembly, its board and its conditions.
+use crate::loader::with_loader;
+use crate::naming::{bad_numbered, with_numbers};
+use asm_program::{Assembly, AssemblyError, Datum, ProgramFault, ProgramWrong, assemble_text};
+use board_core::{Config, USUAL_ASID_LEN, USUAL_WIDTH};
+use conditions::{Condition, Wrong, conditions};
+use diagnostics::said;
+use std::alloc::{AllocError, Global};
+use std::io::{self, ErrorKind, Read};
+use std::rt::Files;
+use std::{fs, str};
+
+/// One byte more than a file may have.
+const READ_LIMIT: usize = 16_777_217;
+
+/// A program that can be explored.
+#[derive(Drop)]
+pub(crate) struct Loaded<'a> {
+    /// What its text says.
+    pub(crate) program: Assembly<'a>,
+    /// Its board's numbers.
+    pub(crate) config: Config,
+    /// Its conditions.
+    pub(crate) conditions: Vec<Condition>,
+}
+
+/// Why nothing was loaded.
+#[derive(Drop)]
+pub(crate) enum Unloaded {
+    /// The file can't be explored: the text behind its name, with the place if there is one, and the fault.
+    File(String),
+    /// Memory was refused.
+    NoMemory,
+}
+
+impl From<AllocError> for Unloaded {
+    fn from(_: AllocError) -> Unloaded {
+        Unloaded::NoMemory
+    }
+}
+
+/// The bytes of a file.
+pub(crate) fn read<R: AllocGlobal + Files>(rt: &R, file: &str) -> Result<Vec<u8>, Unloaded> {
+    let alloc = rt.alloc();
+    match bytes_of(rt, file) {
+        Ok(text) => {
+            if text.len() < READ_LIMIT {
+                Ok(text)
+            } else {
+                Err(unread(alloc, "more than 16,777,216 bytes")?)
+            }
+        }
+        Err(error) => Err(unreadable(alloc, error.kind())?),
+    }
+}
+
+/// A file that can't be read, by the kind of the error.
+fn unreadable(alloc: Global, kind: ErrorKind) -> Result<Unloaded, AllocError> {
+    if kind == ErrorKind::OutOfMemory {
+        return Ok(Unloaded::NoMemory);
+    }
+    unread(alloc, why_unread(kind))
+}
+
+fn bytes_of<R: AllocGlobal + Files>(rt: &R, file: &str) -> io::Result<Vec<u8>> {
+    let mut text = Vec::new(rt.alloc());
+    fs::open(rt, file)?
+        .take(READ_LIMIT as u64)
+        .read_to_end(&mut text)?;
+    Ok(text)
+}
+
+fn why_unread(kind: ErrorKind) -> &'static str {
+    match kind {
+        ErrorKind::NotFound => "no such file",
+        ErrorKind::IsADirectory => "is a directory",
+        ErrorKind::PermissionDenied => "permission denied",
+        _ => "can't be read",
+    }
+}
+
+/// A file that can't be explored, and why.
+pub(crate) fn unread(alloc: Global, why: &str) -> Result<Unloaded, AllocError> {
+    Ok(Unloaded::File(format!(in alloc; ": {why}")?))
+}
+
+/// The program that a text says, with its board and its conditions.
+pub(crate) fn load<'a>(alloc: Global, text: &'a [u8]) -> Result<Loaded<'a>, Unloaded> {
+    let mut program = match assemble_text(alloc, text) {
+        Ok(program) => program,
+        Err(AssemblyError::Faulty(fault)) => return Err(faulty(alloc, text, fault)?),
+        Err(AssemblyError::NoMemory) => return Err(Unloaded::NoMemory),
+    };
+    let Some(config) = board_of(program.data.as_slice()) else {
+        return Err(unread(
+            alloc,
+            "it needs one board: .board HARTS, PAGES, LIMIT, BOOTHART, BOOTADDR, BOOTOPAQUE",
+        )?);
+    };
+    let config = with_loader(alloc, &mut program, config)?;
+    let numbered = with_numbers(alloc, text, &program.symbols)?;
+    match conditions(alloc, &numbered) {
+        Ok(conditions) => Ok(Loaded {
+            program,
+            config,
+            conditions,
+        }),
+        Err(found) if found.wrong == Wrong::NoMemory => Err(Unloaded::NoMemory),
+        Err(found) => Err(Unloaded::File(bad_numbered(alloc, text, &numbered, found)?)),
+    }
+}
+
+/// A program with a fault: its line and column, what is wrong, and the rest of the line.
+fn faulty(alloc: Global, text: &[u8], fault: ProgramFault) -> Result<Unloaded, AllocError> {
+    let line = fault.place.line;
+    let column = fault.place.column;
+    let what = what_is(fault.wrong);
+    let rest = said(str::from_utf8(rest_of(text, line, column)).unwrap_or(""));
+    let rest = with_blanks(alloc, rest)?;
+    Ok(Unloaded::File(format!(in alloc; ":{line}:{column}: {what}: '{rest}'")?))
+}
+
+/// A text with blanks in place of its tabs.
+fn with_blanks(alloc: Global, text: &str) -> Result<String, AllocError> {
+    let mut blank = String::new(alloc);
+    for letter in text.chars() {
+        blank.push(if letter == '\t' { ' ' } else { letter })?;
+    }
+    Ok(blank)
+}
+
+/// The bytes of a line from a column on; both count from 1.
+fn rest_of(text: &[u8], line: usize, column: usize) -> &[u8] {
+    for (i, found) in text.split(|b| *b == b'\n').enumerate() {
+        if i.saturating_add(1) == line {
+            return found.get(column.saturating_sub(1)..).unwrap_or(b"");
+        }
+    }
+    b""
+}
+
+/// What is wrong, in words.
+fn what_is(wrong: ProgramWrong) -> &'static str {
+    match wrong {
+        ProgramWrong::InText(wrong) => text_wrong(wrong),
+        ProgramWrong::InStatement(wrong) => statement_wrong(wrong),
+    }
+}
+
+/// What is wrong with characters, in words.
+fn text_wrong(wrong: asm_tokens::BadText) -> &'static str {
+    match wrong {
+        asm_tokens::BadText::BadByte => "no token begins so",
+        asm_tokens::BadText::OpenString => "a string isn't closed on its line",
+        asm_tokens::BadText::OpenComment => "a comment isn't closed",
+    }
+}
+
+/// What is wrong with a statement, in words.
+fn statement_wrong(wrong: asm_expressions::Wrong) -> &'static str {
+    use asm_expressions::Wrong as Bad;
+    match wrong {
+        Bad::NoValue => "a value is missing",
+        Bad::BadNumber => "this is no number below 2^64",
+        Bad::UnknownSymbol => "nothing defines this symbol",
+        Bad::UnknownFunction => "%hi and %lo are the functions of values",
+        Bad::OpenParenthesis => "a parenthesis isn't closed",
+        Bad::TooDeep => "too many parentheses and signs stand within one another",
+        Bad::ByZero => "a division by 0",
+        Bad::Behind => "something stands behind an operand",
+        Bad::NoStatement => "this is no label, directive or instruction",
+        Bad::UnknownMnemonic => "no instruction has this mnemonic",
+        Bad::Refused => "guests don't obey this instruction",
+        Bad::UnknownCsr => "no CSR of guests is called so",
+        Bad::SipWrite => "sip is cleared by csrc without a result: write csrr, then csrc",
+        Bad::BadOperands => "these aren't the operands that it takes",
+        Bad::OutOfRange => "a value doesn't fit",
+        Bad::OutOfReach => "the target is too far away, or at an odd address",
+        Bad::UnknownDirective => "no directive is called so",
+        Bad::DefinedTwice => "the symbol is defined twice",
+        Bad::Backwards => ".org goes back, or the program is too large",
+        Bad::UnknownSection => ".text, .rodata, .data and .bss are the sections",
+        Bad::Unsettled => "the size of a section depends on where it stands",
+    }
+}
+
+/// The board that `.board` says: six numbers, or all eight.
+fn board_of(data: &[Datum]) -> Option<Config> {
+    let mut numbers = [0, 0, 0, 0, 0, 0, USUAL_ASID_LEN, USUAL_WIDTH];
+    let mut count = 0;
+    for datum in data {
+        if datum.size == 0 && count < 8 {
+            numbers[count] = datum.value;
+            count += 1;
+        } else if datum.size == 0 {
+            return None;
+        }
+    }
+    if count != 6 && count != 8 {
+        return None;
+    }
+    Some(Config {
+        harts: numbers[0],
+        pages: numbers[1],
+        limit: numbers[2],
+        boot_hart: numbers[3],
+        boot_addr: numbers[4],
+        boot_opaque: numbers[5],
+        asid_len: numbers[6],
+        width: numbers[7],
+    })
+}

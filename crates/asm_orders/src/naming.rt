@@ -1,0 +1,146 @@
+//! Symbols in conditions, which stand for their values (profile).
+use asm_expressions::Symbol;
+use conditions::Fault;
+use diagnostics::bad_condition;
+use script_lines::{OpName, SaidName};
+use std::alloc::{AllocError, Global};
+use std::str;
+
+/// Words of conditions, beside the names of operations and replies.
+const WORDS: [&[u8]; 17] = [
+    b"_",
+    b"after",
+    b"before",
+    b"c",
+    b"can",
+    b"each",
+    b"end",
+    b"maybe",
+    b"missed",
+    b"never",
+    b"off",
+    b"quiet",
+    b"some",
+    b"stale",
+    b"steady",
+    b"stuck",
+    b"unsteady",
+];
+
+/// A program's text in which the symbols of conditions are numbers.
+///
+/// # Errors
+///
+/// Memory was refused.
+pub(crate) fn with_numbers(
+    alloc: Global,
+    text: &[u8],
+    symbols: &[Symbol<'_>],
+) -> Result<Vec<u8>, AllocError> {
+    let mut numbered = Vec::new(alloc);
+    for (i, line) in text.split(|b| *b == b'\n').enumerate() {
+        if i > 0 {
+            numbered.push(b'\n')?;
+        }
+        put_line(alloc, line, symbols, &mut numbered)?;
+    }
+    Ok(numbered)
+}
+
+/// Adds a line, whose symbols are numbers if it is a condition.
+fn put_line(
+    alloc: Global,
+    line: &[u8],
+    symbols: &[Symbol<'_>],
+    out: &mut Vec<u8>,
+) -> Result<(), AllocError> {
+    match line.trim_ascii_start().strip_prefix(b"#!") {
+        Some(asked) => {
+            let front = line.len().saturating_sub(asked.len());
+            out.extend_from_slice(line.get(..front).unwrap_or(b""))?;
+            put_asked(alloc, asked, symbols, out)
+        }
+        None => out.extend_from_slice(line),
+    }
+}
+
+/// Adds the text of a condition behind its `#!`.
+fn put_asked(
+    alloc: Global,
+    asked: &[u8],
+    symbols: &[Symbol<'_>],
+    out: &mut Vec<u8>,
+) -> Result<(), AllocError> {
+    let mut word = Vec::new(alloc);
+    let mut is_comment = false;
+    for byte in asked {
+        is_comment = is_comment || *byte == b'#';
+        if is_comment || is_between(*byte) {
+            put_word(alloc, &word, symbols, out)?;
+            word.clear();
+            out.push(*byte)?;
+        } else {
+            word.push(*byte)?;
+        }
+    }
+    put_word(alloc, &word, symbols, out)
+}
+
+/// Whether a byte stands between words.
+fn is_between(byte: u8) -> bool {
+    matches!(byte, b' ' | b'\t' | b'\r' | b',')
+}
+
+/// Adds a word, or the value of the symbol that it names.
+fn put_word(
+    alloc: Global,
+    word: &[u8],
+    symbols: &[Symbol<'_>],
+    out: &mut Vec<u8>,
+) -> Result<(), AllocError> {
+    match value_of(word, symbols) {
+        Some(value) => out.extend_from_slice(format!(in alloc; "{value:#x}")?.as_bytes()),
+        None => out.extend_from_slice(word),
+    }
+}
+
+/// The value of the symbol that a word names. A word of conditions names none, nor does a number.
+fn value_of(word: &[u8], symbols: &[Symbol<'_>]) -> Option<u64> {
+    let first = word.first()?;
+    if first.is_ascii_digit() || is_of_conditions(word) {
+        return None;
+    }
+    let symbol = symbols.iter().find(|symbol| symbol.name == word)?;
+    Some(symbol.value)
+}
+
+fn is_of_conditions(word: &[u8]) -> bool {
+    WORDS.iter().any(|it| *it == word) || OpName::of(word).is_some() || SaidName::of(word).is_some()
+}
+
+/// The message of a condition's fault: the place in the text as it stands, or the condition with its numbers if it names symbols.
+///
+/// # Errors
+///
+/// Memory was refused.
+pub(crate) fn bad_numbered(
+    alloc: Global,
+    text: &[u8],
+    numbered: &[u8],
+    found: Fault,
+) -> Result<String, AllocError> {
+    let asked = line_of(numbered, found.line);
+    if line_of(text, found.line) == asked {
+        return bad_condition(alloc, text, found);
+    }
+    let line = found.line;
+    let wrong = found.wrong;
+    let asked = str::from_utf8(asked).unwrap_or("").trim();
+    format!(in alloc; ":{line}: {wrong}: '{asked}'")
+}
+
+/// A line of a text; both count from 1.
+fn line_of(text: &[u8], line: u64) -> &[u8] {
+    let before = line.saturating_sub(1) as usize;
+    text.split(|b| *b == b'\n').nth(before).unwrap_or(b"")
+}

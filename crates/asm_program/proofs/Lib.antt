@@ -1,0 +1,4 @@
+pub mod More
+pub mod Stops
+pub mod Relation
+pub mod Entry

@@ -1,0 +1,12 @@
+pub mod Parts
+pub mod Sections
+pub mod Directives
+pub mod Forms
+pub mod Moves
+pub mod Layout
+pub mod Code
+pub mod Data
+pub mod Written
+pub mod Assembles
+pub mod Laws
+pub mod Inside

@@ -1,0 +1,107 @@
+//! What the parts of a program write.
+ghost use Rattle.std.specs.Prelude.{◌≡◌, IfErr, IfOk, OnOk, map};
+ghost use Rattle.asm_expressions.specs.Symbols.{context_of, named_of};
+ghost use Rattle.asm_program.specs.Forms.PartForm.{Directs, Instructs};
+ghost use Rattle.asm_program.specs.Inside.Passes.{StopsAt, added_if, nothing_written, standing_of, sum_in, sum_of};
+ghost use Rattle.asm_program.specs.Written.{part_written, form_written};
+ghost use Rattle.asm_tokens.specs.Readings.{spots_of};
+
+use crate::code::{CodeLine, add_lines};
+use crate::data::{Datum, add_numbers};
+use crate::directives::Directive;
+use crate::forms::{Form, read_form};
+use crate::layout::Statement;
+use crate::stop::Stop;
+use asm_expressions::{Scope, Symbol};
+use asm_instructions::instructions_of;
+use asm_mnemonics::OperandForm;
+use asm_tokens::Placed;
+use std::alloc::Global;
+
+/// Instructions and data, with their addresses.
+#[derive(Drop)]
+pub(crate) struct Output {
+    /// The instructions.
+    pub code: Vec<CodeLine>,
+    /// The data.
+    pub data: Vec<Datum>,
+}
+
+/// What all parts write, where they stand.
+pub(crate) fn write_all(
+    alloc: Global,
+    symbols: &[Symbol<'_>],
+    statements: &[Statement<'_, '_>],
+) -> Result<Output, Stop>
+    ensures sum { IfOk result (λ output. sum_in (map named_of symbols.now) nothing_written (map standing_of statements.now) ≡ Ok (sum_of output)) }
+    ensures fault { IfErr result (StopsAt (sum_in (map named_of symbols.now) nothing_written (map standing_of statements.now))) }
+{
+    let mut output = Output {
+        code: Vec::new(alloc),
+        data: Vec::new(alloc),
+    };
+    for statement in statements {
+        output.add(symbols, statement)?;
+    }
+    Ok(output)
+}
+
+impl Output {
+    /// Adds what a part writes.
+    #[tactic(auto, unfolding(crate::specs::Written::part_written))]
+    fn add(&mut self, symbols: &[Symbol<'_>], statement: &Statement<'_, '_>) -> Result<(), Stop>
+        ensures added { OnOk result (added_if (sum_of self.old) (part_written (map named_of symbols.now) (standing_of statement.now)) ≡ Ok (sum_of self.new)) }
+        ensures fault { IfErr result (StopsAt (added_if (sum_of self.old) (part_written (map named_of symbols.now) (standing_of statement.now)))) }
+    {
+        let scope = Scope {
+            symbols,
+            statement: statement.number,
+            here: statement.at,
+            end: statement.part.end,
+        };
+        let (form, left) = read_form(&statement.part)?;
+        match form {
+            Form::Nothing => Ok(()),
+            Form::Label(_) => Ok(()),
+            Form::Directive(directive, operands) => {
+                self.add_data(&scope, directive, left, operands)
+            }
+            Form::Instruction(form, operands) => self.add_code(&scope, form, left, operands),
+        }
+    }
+
+    /// Adds the machine's instructions that stand for one of the text.
+    fn add_code(
+        &mut self,
+        scope: &Scope<'_, '_>,
+        form: OperandForm,
+        left: usize,
+        operands: &[Placed<'_>],
+    ) -> Result<(), Stop>
+        ensures added { OnOk result (added_if (sum_of self.old) (form_written (context_of scope.now) (Instructs form (spots_of operands.now)) left) ≡ Ok (sum_of self.new)) }
+        ensures fault { IfErr result (StopsAt (added_if (sum_of self.old) (form_written (context_of scope.now) (Instructs form (spots_of operands.now)) left))) }
+    {
+        match instructions_of(scope, form, left, operands) {
+            Ok(made) => Ok(add_lines(&mut self.code, made, scope.here, left)?),
+            Err(fault) => Err(Stop::At(fault)),
+        }
+    }
+
+    /// Adds the data of a directive.
+    #[tactic(auto, using(crate::proofs::More::numbers_added, crate::proofs::Stops::stops_numbers))]
+    fn add_data(
+        &mut self,
+        scope: &Scope<'_, '_>,
+        directive: Directive,
+        left: usize,
+        operands: &[Placed<'_>],
+    ) -> Result<(), Stop>
+        ensures added { OnOk result (added_if (sum_of self.old) (form_written (context_of scope.now) (Directs directive (spots_of operands.now)) left) ≡ Ok (sum_of self.new)) }
+        ensures fault { IfErr result (StopsAt (added_if (sum_of self.old) (form_written (context_of scope.now) (Directs directive (spots_of operands.now)) left))) }
+    {
+        match directive {
+            Directive::Data(size) => add_numbers(&mut self.data, scope, size, left, operands),
+            _ => Ok(()),
+        }
+    }
+}

@@ -1,0 +1,10 @@
+pub mod Bytes
+pub mod Marks
+pub mod Runs
+pub mod Tokens
+pub mod Readings
+pub mod Statements
+pub mod Places
+pub mod Registers
+pub mod Numbers
+pub mod Terms
