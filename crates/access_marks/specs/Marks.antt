@@ -4,20 +4,23 @@ use Rattle.board_terms.specs.declared.op.Actor.{Actor}
 use Rattle.board_terms.specs.declared.op.Actor.TheVariants.{Hart, Clock}
 use Rattle.board_core.specs.History.{Event, Reach, access_of}
 use Rattle.board_core.specs.Opening.{Opening}
+use Rattle.any_tlb.specs.Firm.{IsFirmReach, IsLenientReach}
 use Rattle.any_tlb.specs.Stale.{IsMissed, IsStale}
 use Rattle.any_tlb.specs.Steady.{IsSteadyReach}
 use Rattle.access_marks.specs.declared.marks.Marks.{Marks}
 
 -- no mark
 abbrev pub unmarked : Marks
-unmarked = record { stale = false; missed = false; unsteady = false }
+unmarked = record { stale = false; missed = false; unsteady = false; unfirm = false; unlenient = false }
 
 -- The marks of an access by hart h, which the event is: whether it is stale, whether a fence call missed it, and whether
--- it isn't steady.
+-- it isn't steady, firm or lenient.
 pub record IsMarkedAs (o : Opening) (past : List Event) (h : ℕ) (event : Event) (reach : Reach) (marks : Marks) : Type 0 where
   pub stale : (marks.stale ≡ true) ↔ IsStale o past h event reach
   pub missed : (marks.missed ≡ true) ↔ IsMissed o past h event reach
   pub steady : (marks.unsteady ≡ false) ↔ IsSteadyReach o past h reach
+  pub firm : (marks.unfirm ≡ false) ↔ IsFirmReach o past h reach
+  pub lenient : (marks.unlenient ≡ false) ↔ IsLenientReach o past h reach
 
 -- The marks of an event after a history. An event that is no access of a hart has none.
 abbrev pub IsMarkedStep : Opening → List Event → Event → Actor → Option Reach → Marks → Type 0

@@ -9,6 +9,7 @@ ghost use Rattle.board_core.specs.Opening.{Opening, opening_at};
 ghost use Rattle.board_core.specs.Replies.{IsLegal};
 ghost use Rattle.board_laws.specs.Steady.{no_tlb};
 ghost use Rattle.any_tlb.specs.Effects.{effect_at};
+ghost use Rattle.any_tlb.specs.Firm.{IsFirm, IsFirmReach, IsLenient, IsLenientReach};
 ghost use Rattle.any_tlb.specs.Stale.{IsMissed};
 ghost use Rattle.any_tlb.specs.Steady.{IsSteady, IsSteadyFetch, IsSteadyReach};
 ghost use Rattle.tlb_watch.specs.declared.hart_address.HartAddress.{HartAddress as Place};
@@ -23,12 +24,13 @@ ghost use Rattle.access_marks.specs.Marks.{IsMarkedAs, IsMarkedStep};
 use crate::call_step::CallStep;
 use crate::changes::{Written, changed, written_by};
 use crate::entry_use::EntryUse;
+use crate::logging::{log_event, satp_before};
 use crate::marks::Marks;
 use crate::missing::UseWatches;
 use crate::registers::satps;
 use crate::taking::takes;
 use crate::words::{WordNote, differs, note_change, note_effect};
-use any_tlb::{missed_is_stale, watched_words_decide};
+use any_tlb::{firm_is_lenient, missed_is_stale, watched_words_decide};
 use board_core::{Actor, Board, Cause, Config, Entry, Event, Kind, Op};
 use board_rules::access_of;
 use hart_access::{Access, Way};
@@ -39,6 +41,7 @@ use tlb_watch::{
     CacheEffect, HartAddress, Tracker, effect_of, first_watches_are_watches, is_quiet, is_stale,
     quiet_operations_have_no_effect, trackers_follow_histories, trackers_outlast_quiet_events,
 };
+use walk_watch::WalkLog;
 
 /// A board at a place of a record, and what its harts' caches may hold there for the addresses that the record accesses.
 #[derive(Drop)]
@@ -47,11 +50,13 @@ pub(crate) struct Followed {
     tracker: Tracker,
     notes: Vec<WordNote>,
     uses: UseWatches,
+    log: WalkLog,
 }
 
 impl Model for Followed {
     ghost use Rattle.std.specs.List.{All};
     ghost use Rattle.tlb_watch.specs.Tracked.{IsTracking, addresses_of};
+    ghost use Rattle.walk_watch.specs.Logged.{IsLogged, listed};
     ghost use Rattle.access_marks.specs.Inside.Following.{Following};
     ghost use Rattle.access_marks.specs.Inside.Missing.{IsKept};
     ghost use Rattle.access_marks.specs.Inside.Words.{AreNoted};
@@ -62,7 +67,8 @@ impl Model for Followed {
 
     ghost invariant = { λ f. IsTracking f.board.opening f.board.past (addresses_of f.tracker) f.tracker
         × AreNoted f.board.opening f.board.past f.notes.items
-        × All (IsKept f.board.opening f.board.past) f.uses.watches.items };
+        × All (IsKept f.board.opening f.board.past) f.uses.watches.items
+        × IsLogged f.board.opening f.board.past (listed f.log) };
 }
 
 impl Followed {
@@ -95,6 +101,7 @@ impl Followed {
             tracker,
             notes: Vec::new(alloc),
             uses: UseWatches::new(alloc),
+            log: WalkLog::new(alloc),
         })
     }
 
@@ -143,6 +150,8 @@ impl Followed {
             (record { va = at.address; access = access }) marks) }
     {
         let unsteady = !self.is_steady(at, access);
+        let firm = self.is_firm(alloc, at, access)?;
+        let lenient = self.is_lenient_or(alloc, at, access, firm)?;
         let by = used;
         let stale = is_stale(&self.board, at, access, by);
         let missed = self.is_missed(alloc, at, access, used)?;
@@ -150,6 +159,8 @@ impl Followed {
             stale,
             missed,
             unsteady,
+            unfirm: !firm,
+            unlenient: !lenient,
         })
     }
 
@@ -197,6 +208,100 @@ impl Followed {
             (record { va = at.address; access = access }) }
     {
         self.is_translated_steadily(at, access.kind()) && self.is_fetched_steadily(at, access)
+    }
+
+    /// Whether an access is firm, with the word that it fetches.
+    ///
+    /// # Errors
+    ///
+    /// Out of memory.
+    fn is_firm(&self, alloc: Global, at: HartAddress, access: Access) -> Result<bool, AllocError>
+        requires first { self.now.course.opening ≡ opening_at self.now.course.opening.config }
+        requires present { at.hart < self.now.course.opening.config.harts }
+        ensures { IfOk result (λ firm. (firm ≡ true) ↔ IsFirmReach self.now.course.opening self.now.course.past at.hart
+            (record { va = at.address; access = access })) }
+    {
+        if !self.is_fetched_steadily(at, access) {
+            return Ok(false);
+        }
+        self.is_translated_firmly(alloc, at, access.kind())
+    }
+
+    /// Whether the translation of an access of this kind is firm.
+    fn is_translated_firmly(
+        &self,
+        alloc: Global,
+        at: HartAddress,
+        kind: Kind,
+    ) -> Result<bool, AllocError>
+        requires first { self.now.course.opening ≡ opening_at self.now.course.opening.config }
+        requires present { at.hart < self.now.course.opening.config.harts }
+        ensures { IfOk result (λ firm. (firm ≡ true)
+            ↔ IsFirm self.now.course.opening self.now.course.past at.hart at.address kind) }
+    {
+        let view = self.board.view();
+        let register = view.satp_register(at.hart);
+        self.log.is_firm(alloc, at, view.ram(), register, kind)
+    }
+
+    /// Whether an access is lenient, if one knows whether it is firm.
+    ///
+    /// # Errors
+    ///
+    /// Out of memory.
+    fn is_lenient_or(
+        &self,
+        alloc: Global,
+        at: HartAddress,
+        access: Access,
+        firm: bool,
+    ) -> Result<bool, AllocError>
+        requires first { self.now.course.opening ≡ opening_at self.now.course.opening.config }
+        requires present { at.hart < self.now.course.opening.config.harts }
+        requires known { firm ≡ true → IsFirmReach self.now.course.opening self.now.course.past at.hart
+            (record { va = at.address; access = access }) }
+        ensures { IfOk result (λ lenient. (lenient ≡ true) ↔ IsLenientReach self.now.course.opening self.now.course.past at.hart
+            (record { va = at.address; access = access })) }
+    {
+        firm_is_lenient();
+        if firm {
+            return Ok(true);
+        }
+        self.is_lenient(alloc, at, access)
+    }
+
+    /// Whether an access is lenient, with the word that it fetches.
+    ///
+    /// # Errors
+    ///
+    /// Out of memory.
+    fn is_lenient(&self, alloc: Global, at: HartAddress, access: Access) -> Result<bool, AllocError>
+        requires first { self.now.course.opening ≡ opening_at self.now.course.opening.config }
+        requires present { at.hart < self.now.course.opening.config.harts }
+        ensures { IfOk result (λ lenient. (lenient ≡ true) ↔ IsLenientReach self.now.course.opening self.now.course.past at.hart
+            (record { va = at.address; access = access })) }
+    {
+        if !self.is_fetched_steadily(at, access) {
+            return Ok(false);
+        }
+        self.is_translated_leniently(alloc, at, access.kind())
+    }
+
+    /// Whether the translation of an access of this kind is lenient.
+    fn is_translated_leniently(
+        &self,
+        alloc: Global,
+        at: HartAddress,
+        kind: Kind,
+    ) -> Result<bool, AllocError>
+        requires first { self.now.course.opening ≡ opening_at self.now.course.opening.config }
+        requires present { at.hart < self.now.course.opening.config.harts }
+        ensures { IfOk result (λ lenient. (lenient ≡ true)
+            ↔ IsLenient self.now.course.opening self.now.course.past at.hart at.address kind) }
+    {
+        let view = self.board.view();
+        let register = view.satp_register(at.hart);
+        self.log.is_lenient(alloc, at, view.ram(), register, kind)
     }
 
     /// Whether the translation of an access of this kind is steady.
@@ -277,14 +382,17 @@ impl Followed {
             tracker,
             mut notes,
             uses,
+            mut log,
         } = self;
         let call = CallStep::of(board.config(), event);
         let effect = effect_of(&board, event);
         let word = written_by(&board.view(), event);
+        let former = satp_before(&board, event);
         if !takes(&mut board, event) {
             return Ok(None);
         }
         note(&mut notes, &board, word, effect)?;
+        log_event(&mut log, &board, word, former, effect)?;
         let tracker = track(alloc, tracker, &board, event.op(), effect)?;
         let uses = uses.happened(alloc, &board, call)?;
         Ok(Some(Followed {
@@ -292,6 +400,7 @@ impl Followed {
             tracker,
             notes,
             uses,
+            log,
         }))
     }
 }

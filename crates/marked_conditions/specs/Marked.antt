@@ -5,7 +5,7 @@ use Rattle.board_core.specs.History.{Event}
 use Rattle.condition_script.specs.declared.items.Item.{Item}
 use Rattle.condition_script.specs.declared.items.Item.TheVariants.{Word}
 use Rattle.condition_script.specs.declared.marks.Mark.{Mark}
-use Rattle.condition_script.specs.declared.marks.Mark.TheVariants.{Missed, Stale, Unsteady}
+use Rattle.condition_script.specs.declared.marks.Mark.TheVariants.{Missed, Stale, Unfirm, Unlenient, Unsteady}
 use Rattle.condition_script.specs.declared.names.Name.TheVariants as names
 use Rattle.condition_script.specs.declared.patterns.Pattern.{Pattern}
 use Rattle.condition_script.specs.declared.rules.Ending.{Ending}
@@ -21,6 +21,8 @@ abbrev pub told_mark : Mark → Marks → Bool
 told_mark Stale marks = marks.stale
 told_mark Missed marks = marks.missed
 told_mark Unsteady marks = marks.unsteady
+told_mark Unfirm marks = marks.unfirm
+told_mark Unlenient marks = marks.unlenient
 
 -- the mark that a word is
 abbrev pub mark_in : Option (Option Item) → Option Mark

@@ -3,6 +3,7 @@ ghost use Rattle.std.specs.Prelude.{◌≡◌, IfSome, length};
 
 use crate::course::{Course, Odd};
 use crate::marked::{failing_place, is_met_by, judged, marks_if};
+use access_causes::{Asked, Asks};
 use access_marks::Marks;
 use board_core::Event;
 use conditions::{Condition, Rule};
@@ -163,15 +164,19 @@ fn stale_causes<R: AllocGlobal>(
     course: &Course,
     events: &[Event],
 ) -> Result<Vec<ToldCause>, AllocError> {
-    let mut places = Vec::new(trial.rt.alloc());
+    let mut asked = Vec::new(trial.rt.alloc());
     for odd in course.odd.iter() {
         if let Odd::Stale { place, .. } = odd
-            && places.len() < MOST_CAUSES
+            && asked.len() < MOST_CAUSES
         {
-            places.push(*place)?;
+            let place = *place;
+            asked.push(Asked {
+                place,
+                asks: Asks::Held,
+            })?;
         }
     }
-    told_causes(trial, course.record(events), &places)
+    told_causes(trial, course.record(events), &asked)
 }
 
 /// The point of a schedule's or a trace's lines.

@@ -1,5 +1,6 @@
 use Rattle.std.proofs.Common.{subst}
 use Rattle.std.specs.Prelude.{◌↔◌, IsTrue}
+use Rattle.any_tlb.specs.Firm.{IsFirmReach, IsLenientReach}
 use Rattle.any_tlb.specs.Stale.{IsStale}
 use Rattle.any_tlb.specs.Steady.{IsSteadyReach}
 use Rattle.access_marks.specs.Inside.Following.{Following}
@@ -14,4 +15,6 @@ returns-clause-marked c = λ event uses.
           (c.is_stale-stale.ensures event uses);
       missed = c.in_ok-missed.ensures.missed event uses;
       steady = not-false c.is_steady-unsteady.result (IsSteadyReach f.course.opening f.course.past c.args.at.hart (record { va = c.args.at.address; access = c.args.access })) c.is_steady-unsteady.ensures;
+      firm = not-false c.in_ok-firm.firm (IsFirmReach f.course.opening f.course.past c.args.at.hart (record { va = c.args.at.address; access = c.args.access })) c.in_ok-firm.ensures;
+      lenient = not-false c.in_ok-lenient.lenient (IsLenientReach f.course.opening f.course.past c.args.at.hart (record { va = c.args.at.address; access = c.args.access })) c.in_ok-lenient.ensures;
     }

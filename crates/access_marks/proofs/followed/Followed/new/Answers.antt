@@ -10,6 +10,7 @@ use Rattle.access_marks.specs.declared.words.WordNote.{WordNote}
 use Rattle.access_marks.specs.declared.use_watch.UseWatch.{UseWatch}
 use Rattle.access_marks.specs.Inside.Missing.{IsKept}
 use Rattle.access_marks.specs.Inside.Words.{AreNoted}
+use Rattle.walk_watch.specs.Logged.{IsLogged, listed}
 use Rattle.access_marks.proofs.Following.{of-own}
 use Rattle.access_marks.proofs.Wording.{noted-first}
 use Rattle.access_marks.proofs.followed.Followed.new.Goals as goal
@@ -25,6 +26,8 @@ invariant_of-result c =
       subst (λ (b : Course). IsTracking b.opening b.past (addresses_of c.in_ok-tracker.tracker) c.in_ok-tracker.tracker) made tracks,
       subst (λ (b : Course). AreNoted b.opening b.past c.new-2.result.items) made (subst (λ (notes : List WordNote). AreNoted (opening_at config) [] notes) (sym c.new-2.ensures.items) (noted-first config)),
       subst (λ (b : Course). All (IsKept b.opening b.past) c.new-3.result.watches.items) made (subst (λ (l : List UseWatch). All (IsKept (opening_at config) []) l) (sym c.new-3.ensures) (All-nil (IsKept (opening_at config) []))),
+      subst (λ (b : Course). IsLogged b.opening b.past (listed c.new-4.result)) made
+          (λ i. record { own = c.new-4.ensures.own i; global = c.new-4.ensures.global i; notes = c.new-4.ensures.notes i }),
     )
 
 pub returns-clause-made : goal.returns-clause-made
