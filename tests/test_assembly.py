@@ -274,9 +274,10 @@ data:   .byte   1, 0, -1
     def test_lost_and_stuck_guests(self):
         """Where no hart goes on it is told where each stands, and why a guest is lost; also where no condition asks."""
         for text, said in LOST:
-            text = f"        .board 1, 4, 9, 0, 0x80000000, 0\n        .org 0x80000000\n{text if text[0] == '1' else '        nop' + chr(10) + '        ' + text}\n"
+            text = f"        .board 2, 4, 9, 0, 0x80000000, 0\n        .org 0x80000000\n{text if text[0] == '1' else '        nop' + chr(10) + '        ' + text}\n"
             lines, status = of_text(self.room, text)
             must(f"{text}: {status}, {lines}", points(lines) == ["not ok 1 - a.s: no order ends stuck: fails"] and status == 1)
+            must(f"{text}: {lines}", not any(it.startswith('    - "hart 1: ') for it in lines))
             must(f"{text}: {lines}", any(it.startswith('    - "hart 0: ') and said in it for it in lines) and any(it.startswith("# in some order hart 0 is ") and said in it for it in lines))
             lines, status = of_text(self.room, "#! end quiet off\n" + text)
             must(f"{text}: {status}, {lines}", status == 1)
