@@ -316,6 +316,10 @@ data:   .byte   1, 0, -1
         lines, status = explored(self.room, "one/a.s", "two/a.s")
         names = {"a.s.1.failed", "a.s.2.reached", "a.s~2.1.failed", "a.s~2.2.reached"}
         must(f"{status}, {lines}", status == 1 and names <= {*os.listdir(self.room)} and "# 4 points, 2 failed" in lines and "# 2 files" in lines)
+        fence = HEAD + "        li a7, 0x52464e43\n        li a6, 1\n        li a0, 2\n        li a1, 0\n        li a2, 0\n        li a3, 0\n        ecall\n        fence.i\n        ebreak\nother:  ebreak\n"
+        lines, status = of_text(self.room, f"#! some 0 poll -> ret 0\n{fence}")
+        steps = [it for it in lines if re.match(r"    \d+ [01] (serve|poll) ", it)]
+        must(f"{status}, {lines}", status == 0 and len(steps) == 1 and "#" not in steps[0])
         os.symlink("one/a.s", os.path.join(self.room, "b.s.1.failed"))
         write(os.path.join(self.room, "b.s"), text)
         found = subprocess.run(["sbiboard explore", "b.s", "one/a.s"], executable=EXPLORER, cwd=self.room, capture_output=True, text=True, timeout=60)
