@@ -5,7 +5,7 @@ import re
 
 from board_model import RESUME_PENDING, START_PENDING, STATES, SUSPEND_PENDING, SUSPENDED, board_of, spelled_answer, spelled_step, step_of
 
-from .fixtures import ROOT, read
+from .fixtures import ROOT, read_bytes
 
 
 def steps(text):
@@ -110,9 +110,9 @@ def hart_row(hart, state, waiting=0, out="-", registers="0  0 00  0"):
 
 # ---- the worked rows
 
-ROWS = os.path.join(ROOT, "crates/rows/data")
-# What stands behind the lines of a row.
-END_OF_LINES = re.compile(r"\n(?:(?:ends|prints|each) .*|says|checks)\n")
+ROWS = os.path.join(ROOT, "tests/rows")
+# What stands behind the lines of a row (test_worked_rows.py).
+END_OF_LINES = re.compile(r"^(?:(ends|prints|each) (.*)|(says|checks))\n", re.M)
 
 
 def bare(text):
@@ -121,10 +121,25 @@ def bare(text):
     return [it for it in lines if it]
 
 
+def parted(line):
+    """What stands before the arrow of a line, and the reply behind it, or None. A comment isn't part of either."""
+    step, arrow, reply = line.partition("#")[0].partition("->")
+    return step.strip(), reply.strip() if arrow else None
+
+
+def rows_in(file):
+    """Of each row of a file its name, its lines, the word behind them, what stands behind that, and the text below it."""
+    for text in read_bytes(os.path.join(ROWS, file)).decode().split("\nrow ")[1:]:
+        name, _, body = text.partition("\n")
+        found = END_OF_LINES.search(body)
+        lines, rest = (body[: found.start()], body[found.end() :]) if found else (body, "")
+        yield name, lines, (found[1] or found[3]) if found else "ends", (found[2] if found else None) or "0", rest
+
+
 def worked_rows():
-    """Of each worked row its name, its board line and the lines behind it."""
+    """Of each worked row that has lines its name, its board line and the lines behind it."""
     for file in sorted(os.listdir(ROWS)):
-        for text in read(os.path.join(ROWS, file)).split("\nrow ")[1:]:
-            name, _, body = text.partition("\n")
-            head, *lines = bare(END_OF_LINES.split(body + "\n", 1)[0])
-            yield f"{file}: {name}", head, lines
+        for name, lines, *_ in rows_in(file):
+            head, *steps = bare(lines) or [None]
+            if head:
+                yield f"{file}: {name}", head, steps

@@ -2,7 +2,7 @@
 import os
 import re
 
-from .fixtures import ROOT, Test, allocating, at_once, must, named, program_of, read, rows_of, shim
+from .fixtures import Test, allocating, at_once, must, named, program_of, rows_of, shim
 
 # What a row says in place of what it shows.
 NO_MEMORY, NO_THREAD = "no memory", "no thread"
@@ -50,64 +50,6 @@ def each_thread(rows, first):
         said.append(rows.said(thread=len(said) + 1))
         must(f"thread {len(said)} refused: {said[-1]}", said[-1] is None or said[-1][1] == NO_THREAD)
     must(f"{said.count(said[0])} threads are refused in the first row, not {first}", said.count(said[0]) == first)
-
-
-# The room for a history of 1,000,000 events, in bytes, which is the largest allocation of the worked rows; and the most that
-# any other takes.
-HISTORY, LARGEST = 72_000_000, 2_000_000
-
-# How the worked rows tell of refused memory, and how many of their allocations are refused, one at a time.
-LACKS, SPREAD = re.compile("no ?memory|out ?of ?memory|memory allocation failed|AllocError", re.IGNORECASE), 40
-
-
-class WorkedRows(Test):
-    programs = (program_of("rows"),)
-
-    def words_and_lines(self):
-        """The words that name the files of rows, and what the program must print with them."""
-        words = read(os.path.join(ROOT, "crates/rows/args")).split()
-        lines = read(os.path.join(ROOT, "crates/rows/stdout")).splitlines()
-        must(f"its words are {words}", words[-1] == "devices" and lines.count("devices") == 1)
-        return words[:-1], lines[: lines.index("devices")]
-
-    def test_rows__allocations_are_small(self):
-        """The worked rows print what they must, and ask for much memory at once for the largest histories alone."""
-        made, data = shim(self.room), os.path.join(ROOT, "crates/rows/data")
-        words, wanted = self.words_and_lines()
-        found, sizes = allocating(made, self.room, words, program=program_of("rows"), cwd=data)
-        lines = found.stdout.decode().splitlines()
-        must(f"with all memory: status {found.returncode}, {len(lines)} lines", not found.returncode and lines == wanted)
-        most = max(size for size in sizes if size != HISTORY)
-        must(f"an allocation of {most} bytes", most <= LARGEST)
-
-    def test_rows__allocations_refused(self):
-        """Allocations of the worked rows refused, one of many: the row that the refusal reaches says that there was no memory, and
-        nothing else, and the others show what they must; or the program ends there and says so."""
-        made, data = shim(self.room), os.path.join(ROOT, "crates/rows/data")
-        words, wanted = self.words_and_lines()
-
-        def run(refused):
-            own = os.path.join(self.room, str(refused))
-            os.mkdir(own)
-            found, sizes = allocating(made, own, words, refused, program=program_of("rows"), cwd=data)
-            return found.returncode, found.stdout.decode().splitlines(), found.stderr.decode().splitlines(), len(sizes)
-
-        def ends(refused):
-            status, lines, said, _ = run(refused)
-            # (a row that quotes what was printed may end with its line feed)
-            lines = [it for it in lines if it]
-            others = [it for it in lines if it not in wanted]
-            is_told = len(others) <= 1 and all(map(LACKS.search, others))
-            if status == 0 and is_told and [it for it in lines if it not in others] == wanted:
-                return len(others)
-            if status == 1 and not others and lines == wanted[: len(lines)] and LACKS.search(said[-1]):
-                return 2
-            raise AssertionError(f"allocation {refused} refused: status {status}, {others or lines[-1:]}, {said[-1:]}")
-
-        status, lines, _, count = run(0)
-        must(f"with all memory: status {status}, {len(lines)} lines", not status and lines == wanted)
-        ended = set(at_once(ends, [1 + place * (count - 1) // (SPREAD - 1) for place in range(SPREAD)]))
-        must(f"of {count} allocations, those that were refused end in the ways {ended}", ended >= {1, 2})
 
 
 class ThreadRows(Test):

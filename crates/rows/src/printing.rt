@@ -1,7 +1,6 @@
 //! Printed lines that no schedule gives.
 ghost use Rattle.std.specs.Prelude.{◌≡◌, ◌<◌, ◌^◌, OnOk};
 
-use crate::row::ROOM;
 use anyhow::{Context, Result};
 use board_core::{Actor, Board, Config, Op, Refusal, Reply, USUAL_ASID_LEN, USUAL_WIDTH};
 use guest_script::Doing;
@@ -9,6 +8,9 @@ use monitor::{Failed, Sink, print_event, print_head, print_line, print_reply};
 use sbi_abi::{Regs, Sbiret};
 use sbiboard::Device;
 use std::alloc::Global;
+
+/// Room for what is printed, in bytes: a sink that grows while it is written would take refused memory for a failed write.
+const ROOM: usize = 0x10_0000;
 
 const CONFIG: Config = Config {
     harts: 1,
