@@ -52,6 +52,21 @@ def each_thread(rows, first):
     must(f"{said.count(said[0])} threads are refused in the first row, not {first}", said.count(said[0]) == first)
 
 
+# The most that an allocation takes, in bytes, and how many are larger: those of texts of 16 MiB.
+LARGEST, LARGER = 2_000_000, 23
+
+
+class RowsWithoutThreads(Test):
+    programs = (program_of("rows"),)
+
+    @named("rows: allocations are small")
+    def test_allocations_are_small(self):
+        """The rows ask for much memory at once for their texts of 16 MiB alone."""
+        found, sizes = allocating(shim(self.room), self.room, [], program=program_of("rows"))
+        larger = sum(it > LARGEST for it in sizes)
+        must(f"status {found.returncode}, {larger} allocations of more than {LARGEST} bytes", not found.returncode and larger == LARGER)
+
+
 class ThreadRows(Test):
     programs = (THREADS,)
 
