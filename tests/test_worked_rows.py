@@ -65,21 +65,23 @@ def must_say(room, task, text, wanted):
 
 def must_be_so(room, lines, kind, what, below):
     """A row is so."""
+    cases = [it for it in below.split("\n") if it]
+    must("no case", cases or kind not in ("each", "says", "checks"))
     if kind == "prints":
         printed = replayed(room, lines, int(what))
         must(f"printed {shown(printed)}", printed == below)
     elif kind == "each":
-        for case in filter(None, below.split("\n")):
+        for case in cases:
             state = case.partition("#")[2].strip() or what
             found = STATE.search(answered(room, [*lines.splitlines(), case], 0))
             must(f"{case}: {found and found[1]}", found and found[1] == state)
     elif kind in ("says", "checks"):
-        for case in filter(None, below.split("\n")):
+        for case in cases:
             wanted, bar, text = case.partition(" | ")
             must(f"{case}: no text", bar)
             must_say(room, "replay" if kind == "says" else "check", lines + text.replace("\\n", "\n"), wanted)
     else:
-        answered(room, lines.splitlines(), int(what), filter(None, below.split("\n")))
+        answered(room, lines.splitlines(), int(what), cases)
 
 
 # The most that an allocation takes, in bytes, on a board with a small limit.
