@@ -129,7 +129,7 @@ def parted(line):
 
 def rows_in(file):
     """Of each row of a file its name, its lines, the word behind them, what stands behind that, and the text below it."""
-    for text in read_bytes(os.path.join(ROWS, file)).decode().split("\nrow ")[1:]:
+    for text in f"\n{read_bytes(os.path.join(ROWS, file)).decode()}".split("\nrow ")[1:]:
         name, _, body = text.partition("\n")
         found = END_OF_LINES.search(body)
         lines, rest = (body[: found.start()], body[found.end() :]) if found else (body, "")
