@@ -21,7 +21,8 @@ NOTHING, OTHER, SETTLED, BROKEN, MET = "nothing", "the other pattern", "settled"
 FORBIDS = ("never", "after", "each", "before")
 
 # What a condition asks of an access in a reply's place, and what a step has that could have a mark by other entries.
-MARKS, COULD = ("stale", "missed", "unsteady"), "could"
+MARKS, COULD = ("stale", "missed", "unsteady", "unfirm", "unlenient"), "could"
+UNMARKED = {"steady": "unsteady", "firm": "unfirm", "lenient": "unlenient"}
 
 
 # ---- reading
@@ -53,8 +54,8 @@ def condition(line, text):
     if word == "before":
         first, _, second = rule.partition("before")[2].partition(",")
         return Condition(line, text, word, (pattern(first.split()), pattern(second.split())), None, is_maybe)
-    if word == "steady":
-        return Condition(line, text, "never", (pattern([*words, "->", "unsteady"] if words else ["_", "->", "unsteady"]),), None, is_maybe)
+    if word in UNMARKED:
+        return Condition(line, text, "never", (pattern([*(words or ["_"]), "->", UNMARKED[word]]),), None, is_maybe)
     if word == "never" and words[0] in MARKS:
         return Condition(line, text, word, (pattern(["_", "->", words[0]]),), None, is_maybe)
     if word == "never" and "after" in words:

@@ -133,8 +133,8 @@ FENCE_CALLS += (
     (SECOND + REMAPPED + f"2 satp {OTHER}\n" + COVERING + AGAIN + f"2 satp {FIRST}\n2 load 0x1000\n", UNMISSED), (SECOND + REMAPPED + f"2 satp {OTHER}\n" + COVERING + f"2 satp {FIRST}\n2 load 0x1000\n", MISSED),
 )  # fmt: skip
 # What no record has.
-WRONG = (("never 1 poll -> stale", "no poll is stale"), ("never 1 sfence -> missed", "no sfence is missed"), ("some c -> unsteady", "no tick is unsteady"), ("never 9 load -> stale", "the board has no hart 9"), ("never 0 sstatus 7 -> stale", "no sstatus has 7"))
-FAULTS = (("never 1 load -> stal", "unknown word: 'stal'"), ("never 1 load -> miss", "unknown word: 'miss'"), ("never missed 1", "'1'"), ("never 1 load -> stale 1", "too few or too many words: '1'"), ("never stale 1", "'1'"), ("some stale", "not a number: 'stale'"), ("steady c tick -> done", "not a number: '->'"))
+WRONG = (("never 1 poll -> stale", "no poll is stale"), ("never 1 sfence -> missed", "no sfence is missed"), ("some c -> unsteady", "no tick is unsteady"), ("firm 1 wfi", "no wfi is unfirm"), ("never 1 satp -> unlenient", "no satp is unlenient"), ("never 9 load -> stale", "the board has no hart 9"), ("never 0 sstatus 7 -> stale", "no sstatus has 7"))
+FAULTS = (("never 1 load -> stal", "unknown word: 'stal'"), ("never 1 load -> miss", "unknown word: 'miss'"), ("never missed 1", "'1'"), ("never unfirm 1", "'1'"), ("firm stale", "not a number: 'stale'"), ("lenient 1 load -> unlenient", "not a number: '->'"), ("never 1 load -> stale 1", "too few or too many words: '1'"), ("never stale 1", "'1'"), ("some stale", "not a number: 'stale'"), ("steady c tick -> done", "not a number: '->'"))
 
 
 START = """\
@@ -263,8 +263,8 @@ class Marks(Test):
             must(f"{asked}: {lines}", many == 2 and status == 1 and f"  place: {place}" in lines and sum(it.startswith(f"    {place} 2 load 0x1000 -> value ") for it in lines) == 1)
 
     def test_programs_of_few_states(self):
-        """Where a condition asks of marks, and its program fetches, orders are tried, though the states are few; so they are where it asks of `missed`."""
-        for asked, op in (("steady", "fetch 0x80001000"), ("maybe never missed", "load 0x80001000")):
+        """Where a condition asks of marks, and its program fetches, orders are tried, though the states are few; so they are where it asks of `missed`, `unfirm` or `unlenient`."""
+        for asked, op in (("steady", "fetch 0x80001000"), ("maybe never missed", "load 0x80001000"), ("maybe never unfirm", "load 0x80001000"), ("maybe lenient", "load 0x80001000")):
             status, found, lines = in_way(self.room, ("sbiboard", ()), f"#! {asked}\nboard 1 2 9 0 0x80000000 0\nat 0x80000000\n{op}\n")
             must(f"{lines}", status == 0 and found == [f"ok line 1: {asked}: holds in 1,000 orders of unknown many, seed 0"])
 

@@ -31,7 +31,7 @@ FORMS = {
 }  # fmt: skip
 # How each condition is written.
 CONDITIONS = {
-    "never": "never PATTERN [after PATTERN]", "some": "some PATTERN", "each": "each STEP -> REPLY", "before": "before PATTERN , PATTERN", "end": "end END ..", "can": "can end [WAY ..]", "steady": "steady [STEP]",
+    "never": "never PATTERN [after PATTERN]", "some": "some PATTERN", "each": "each STEP -> REPLY", "before": "before PATTERN , PATTERN", "end": "end END ..", "can": "can end [WAY ..]", "steady": "steady [STEP]", "firm": "firm [STEP]", "lenient": "lenient [STEP]",
 }  # fmt: skip
 # The names of extensions, whose ids scripts have.
 EXTENSIONS = {"BASE": "0x10", "TIME": "0x54494d45", "IPI": "0x735049", "RFENCE": "0x52464e43", "HSM": "0x48534d", "SRST": "0x53525354"}
@@ -234,7 +234,7 @@ def of_condition(fault, words):
     """Of a fault of a condition, which has no number."""
     what, word = fault.what.partition(":")[0], fault.word
     if what == "unknown condition":
-        return alike(word, [*RULES]) or "a condition begins with never, some, each, before, end, can end or steady"
+        return alike(word, [*RULES]) or "a condition begins with never, some, each, before, end, can end, steady, firm or lenient"
     if what in ("too few or too many words", "no comma") and words and words[0] in CONDITIONS:
         return f"it is '{CONDITIONS[words[0]]}'"
     if has_other_arrow([word]):

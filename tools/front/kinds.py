@@ -23,8 +23,8 @@ GUEST_WORDS = {
 FIRMWARE_WORDS = {"poll": (0, 0), "serve": (0, 0), "advance": (0, 0)}
 OPERATIONS = {**GUEST_WORDS, **FIRMWARE_WORDS, "tick": (1, 1)}
 REPLIES = {"ret": 2, "entry": 3, "waiting": 0, "gone": 0, "value": 1, "fault": 1, "served": 0, "moved": 1, "done": 0, "refused": 1}
-RULES, ENDS = ("never", "some", "each", "before", "end", "can", "steady", "after", "maybe"), ("off", "history-full", "quiet", "stuck")
-MARKS = ("stale", "missed", "unsteady")
+RULES, ENDS = ("never", "some", "each", "before", "end", "can", "steady", "firm", "lenient", "after", "maybe"), ("off", "history-full", "quiet", "stuck")
+MARKS = ("stale", "missed", "unsteady", "unfirm", "unlenient")
 
 
 def with_numbers(name, least, most=None):

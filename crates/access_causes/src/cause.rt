@@ -1,7 +1,27 @@
-//! Why an access is stale or unsteady, as data. Places count a record's events from 0.
+//! Why an access is stale, unsteady, or not firm, as data. Places count a record's events from 0.
 use board_core::{Entry, FetchWord, HartSet};
 
-/// Why an access is stale or unsteady.
+/// What is asked of an access.
+#[derive(Clone, Copy)]
+pub enum Asks {
+    /// Why it is stale or unsteady.
+    Held,
+    /// Why it isn't firm, though it is steady.
+    Firm,
+    /// Why it isn't lenient, though it is steady.
+    Lenient,
+}
+
+/// An access of a record, and what is asked of it.
+#[derive(Clone, Copy)]
+pub struct Asked {
+    /// The place of the access.
+    pub place: usize,
+    /// What is asked.
+    pub asks: Asks,
+}
+
+/// Why an access is stale, unsteady, or not firm.
 #[derive(Clone, Copy)]
 pub struct AccessCause {
     /// The place of the access.
@@ -27,6 +47,35 @@ pub enum Held {
     Entry(Entry),
     /// A fetched word.
     Word(FetchWord),
+    /// What a walk may see, though it stood before.
+    Walked(Walked),
+}
+
+/// What a walk may see, though it stood before: a TLB may keep it, and walks may read words of different times (Privileged 4.2.1, 4.3.2).
+#[derive(Clone, Copy)]
+pub struct Walked {
+    /// What stood before.
+    pub former: Former,
+    /// The ASID of the hart's satp.
+    pub asid: u16,
+    /// Only a fence without an address ends it.
+    pub is_whole: bool,
+    /// Only a fence without an ASID ends it.
+    pub is_global: bool,
+}
+
+/// What stood before.
+#[derive(Clone, Copy)]
+pub enum Former {
+    /// A word of a page table.
+    Word {
+        /// Its physical address.
+        pa: u64,
+        /// The word.
+        word: u64,
+    },
+    /// The hart's satp.
+    Satp(u64),
 }
 
 /// Since when a hart holds something, or may hold it.
@@ -50,7 +99,7 @@ pub enum Origin {
         /// The event that wrote the next one.
         until: usize,
     },
-    /// It may hold a word that the memory had up to this place (Zifencei).
+    /// It may hold a word that the memory had, or a satp that the hart had, up to this place (Zifencei; Privileged 4.2.1).
     Had(usize),
 }
 

@@ -2,7 +2,7 @@
 ghost use Rattle.std.specs.Prelude.{◌<◌};
 ghost use Rattle.board_terms.specs.Limits.{IsGood};
 
-use crate::cause::{AccessCause, Fencing, Finding, Held, Reach};
+use crate::cause::{AccessCause, Fencing, Finding, Held, Reach, Walked};
 use crate::seen::Seen;
 use board_core::{Actor, Board, Config, Entry, Event, Fence, Flush, HartSet, Op, Range, Reply};
 use sbi_abi::call::RfenceCall;
@@ -86,10 +86,21 @@ impl Fenced {
             (Flush::Entries(fence), Held::Entry(entry)) => {
                 is_of_page(fence.range, address) && is_of_space(fence.asid, entry)
             }
+            (Flush::Entries(fence), Held::Walked(walked)) => ends_walked(fence, walked, address),
             (Flush::Words, Held::Word(_)) => true,
             _ => false,
         }
     }
+}
+
+/// Whether a fence covers what walks for an address may see (Privileged 4.2.1).
+fn ends_walked(fence: Fence, walked: &Walked, address: u64) -> bool {
+    let is_of_space = match fence.asid {
+        None => true,
+        Some(asid) => !walked.is_global && asid == walked.asid,
+    };
+    let is_there = fence.range.is_none() || (!walked.is_whole && is_of_page(fence.range, address));
+    is_of_space && is_there
 }
 
 /// What a remote fence drops whose call waits: its range is good (SBI 8).

@@ -1,8 +1,8 @@
-//! Follows a record on a fresh board, and finds why accesses are stale or unsteady.
+//! Follows a record on a fresh board, and finds why accesses are stale, unsteady, or not firm.
 ghost use Rattle.std.specs.Prelude.{IfSome};
 ghost use Rattle.board_terms.specs.Limits.{IsGood};
 
-use crate::cause::{AccessCause, Fencing};
+use crate::cause::{AccessCause, Asked, Fencing};
 use crate::fences::{Fenced, next_behind};
 use crate::look::Look;
 use crate::seen::Seen;
@@ -11,9 +11,9 @@ use board_core::{Board, Config, Event};
 use std::alloc::{AllocError, Global};
 use tlb_watch::is_quiet;
 
-/// Why the accesses in these places of a record are stale or unsteady, on a board with these numbers from its first opening on. The
-/// places ascend. An access that is neither has no cause, nor has one of a record with more events than a history can have. The cost
-/// is linear in the events, and for each that changes the memory, a satp or a TLB in the places.
+/// Why these accesses of a record are stale, unsteady, or not firm, on a board with these numbers from its first opening on. Their
+/// places ascend. An access that isn't has no cause, nor has one of a record with more events than a history can have. The cost is
+/// linear in the events, and for each that changes the memory, a satp or a TLB in the accesses.
 ///
 /// # Errors
 ///
@@ -22,14 +22,14 @@ pub fn causes_of(
     alloc: Global,
     config: &Config,
     events: &[Event],
-    places: &[usize],
+    asked: &[Asked],
 ) -> Result<Vec<AccessCause>, AllocError> {
     let mut causes = Vec::new(alloc);
     let Some(config) = with_room(config, events.len() as u64) else {
         return Ok(causes);
     };
     let mut course = Course::new(alloc, &config, events)?;
-    let mut looks = looks_at(alloc, &config, &course, places)?;
+    let mut looks = looks_at(alloc, &config, &course, asked)?;
     for at in 0..looks.len() {
         if let Some(cause) = next_cause(alloc, &mut course, &mut looks, at)? {
             causes.push(cause)?;
@@ -108,21 +108,22 @@ impl<'a> Course<'a> {
     }
 }
 
-/// The looks for the accesses in these places, on a board before its first event.
+/// The looks for these accesses, on a board before its first event.
 fn looks_at(
     alloc: Global,
     config: &Config,
     course: &Course<'_>,
-    places: &[usize],
+    asked: &[Asked],
 ) -> Result<Vec<Look>, AllocError> {
     let mut looks = Vec::new(alloc);
     let mut board = new_board(alloc, config)?;
-    for place in places {
-        advance(&mut board, course.events, *place);
-        if let Some(event) = course.events.get(*place)
-            && let Some(sight) = Sight::of(&board, *place, event)
+    for one in asked {
+        let Asked { place, asks } = *one;
+        advance(&mut board, course.events, place);
+        if let Some(event) = course.events.get(place)
+            && let Some(sight) = Sight::of(&board, place, event)
         {
-            looks.push(Look::new(alloc, &course.board, sight))?;
+            looks.push(Look::new(alloc, &course.board, sight, asks))?;
         }
     }
     Ok(looks)

@@ -1,4 +1,5 @@
-//! Why accesses of a record are stale or unsteady: what each used or may use, since when, and which fence would have ended it.
+//! Why accesses of a record are stale, unsteady, or not firm: what each used or may use, since when, and which fence would have ended
+//! it.
 //!
 //! What is found here is shown, and decides no verdict.
 #![tactic(auto)]
@@ -12,7 +13,8 @@ mod possible_look;
 mod runs;
 mod seen;
 mod sight;
+mod walk_look;
 mod word_look;
 
-pub use cause::{AccessCause, Fencing, Held, Origin, Reach};
+pub use cause::{AccessCause, Asked, Asks, Fencing, Former, Held, Origin, Reach, Walked};
 pub use following::{causes_of, with_room};

@@ -1,10 +1,11 @@
 //! An access of a record, and what is followed for it up to its place.
-use crate::cause::{AccessCause, Finding};
+use crate::cause::{AccessCause, Asks, Finding};
 use crate::entry_look::EntryLook;
 use crate::fences::{Fenced, fencing_of};
 use crate::possible_look::PossibleLook;
 use crate::seen::Seen;
 use crate::sight::{Sight, Used};
+use crate::walk_look::WalkLook;
 use crate::word_look::{WordLook, WordPast};
 use board_core::Board;
 use std::alloc::{AllocError, Global};
@@ -19,11 +20,22 @@ enum Followed {
     Word(WordLook),
     /// It used nothing stale, and may use one of these entries, or words.
     Possible(PossibleLook, Option<WordPast>),
+    /// What walks for it may see.
+    Walks(WalkLook),
 }
 
 impl Followed {
     /// What is followed for an access, on a board before its first event.
-    fn new(alloc: Global, board: &Board, sight: &Sight) -> Followed {
+    fn new(alloc: Global, board: &Board, sight: &Sight, asks: Asks) -> Followed {
+        match asks {
+            Asks::Held => Followed::held(alloc, board, sight),
+            Asks::Firm => Followed::Walks(WalkLook::new(alloc, false)),
+            Asks::Lenient => Followed::Walks(WalkLook::new(alloc, true)),
+        }
+    }
+
+    /// What is followed for an access that is stale or unsteady.
+    fn held(alloc: Global, board: &Board, sight: &Sight) -> Followed {
         match sight.used {
             Used::Entry {
                 entry,
@@ -48,8 +60,8 @@ pub(crate) struct Look {
 
 impl Look {
     /// The look for an access, on a board before its first event.
-    pub(crate) fn new(alloc: Global, board: &Board, sight: Sight) -> Look {
-        let followed = Followed::new(alloc, board, &sight);
+    pub(crate) fn new(alloc: Global, board: &Board, sight: Sight, asks: Asks) -> Look {
+        let followed = Followed::new(alloc, board, &sight, asks);
         Look { sight, followed }
     }
 
@@ -88,10 +100,11 @@ impl Look {
                 }
                 look.happened(alloc, sight, board, seen)
             }
+            Followed::Walks(look) => look.happened(sight, board, seen),
         }
     }
 
-    /// Why the access is stale or unsteady, on the board before it, by the record's fences so far.
+    /// Why the access is stale, unsteady, or not firm, on the board before it, by the record's fences so far.
     ///
     /// # Errors
     ///
@@ -123,7 +136,7 @@ impl Look {
         }))
     }
 
-    /// What the access used that is stale, or may use.
+    /// What the access used, or may use.
     fn finding(&self, alloc: Global, board: &Board) -> Result<Option<Finding>, AllocError> {
         match &self.followed {
             Followed::Entry(look) => Ok(look.finding()),
@@ -134,6 +147,7 @@ impl Look {
                     None => Ok(word.and_then(|word| word.finding())),
                 }
             }
+            Followed::Walks(look) => look.finding(alloc, &self.sight, board.view().ram()),
         }
     }
 }

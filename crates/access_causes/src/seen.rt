@@ -1,6 +1,15 @@
 //! Events, as what is followed for accesses sees them.
-use board_core::{Board, Event, Flush, Op};
+use board_core::{Board, Entry, Event, Flush, Op};
 use tlb_watch::{CacheEffect, effect_of};
+
+/// A word that the memory had.
+#[derive(Clone, Copy)]
+pub(crate) struct Stood {
+    /// Its physical address.
+    pub(crate) pa: u64,
+    /// The word. None: the RAM has none there.
+    pub(crate) word: Option<u64>,
+}
 
 /// An event, as what is followed for an access sees it.
 #[derive(Clone, Copy)]
@@ -10,6 +19,8 @@ pub(crate) struct Seen {
     pub(crate) effect: CacheEffect,
     /// Whether it may have changed the memory.
     pub(crate) is_write: bool,
+    /// The word that it may have written, as it was before.
+    written: Option<Stood>,
 }
 
 impl Seen {
@@ -20,7 +31,17 @@ impl Seen {
             place,
             effect,
             is_write: effect == CacheEffect::Reset || is_write(event.op()),
+            written: written_by(board, event),
         }
+    }
+
+    /// The word that it changed, as it was before, on the board as it is after it.
+    pub(crate) fn changed(&self, board: &Board) -> Option<Stood> {
+        let stood = self.written?;
+        if board.word(stood.pa) == stood.word {
+            return None;
+        }
+        Some(stood)
     }
 
     /// The fence that it applied at a hart, if it did.
@@ -29,6 +50,26 @@ impl Seen {
             CacheEffect::Applied(at, flush) if at == hart => Some(flush),
             _ => None,
         }
+    }
+}
+
+/// The word that an event may write, on the board as it is before it.
+fn written_by(board: &Board, event: &Event) -> Option<Stood> {
+    let va = match event.op() {
+        Op::Store(va, _) => va,
+        Op::Amo(at, amo) => amo.word_at(at),
+        _ => return None,
+    };
+    let pa = place_of(va, event.translation());
+    let word = board.word(pa);
+    Some(Stood { pa, word })
+}
+
+/// The physical address of an address by the entry that the access used; without one it is the address itself.
+fn place_of(va: u64, used: Option<Entry>) -> u64 {
+    match used {
+        Some(entry) => entry.pa().wrapping_add(va.wrapping_sub(entry.page())),
+        None => va,
     }
 }
 

@@ -22,7 +22,7 @@ use Rattle.hart_access.specs.Accesses as whole
 use Rattle.hart_access.specs.AccessKinds.{kind_of}
 use Rattle.hart_access.specs.Ways.{in_memory, phys_by}
 use Rattle.hart_access.proofs.Used.{place_of_used}
-use Rattle.rfence.specs.Applied.{effect}
+use Rattle.rfence.specs.Applied.{Empties, effect}
 use Rattle.rfence.specs.Turns as fence_turns
 use Rattle.rfence.specs.Turns.{Turn}
 use Rattle.board_terms.specs.declared.op.Actor.{Actor}
@@ -77,7 +77,7 @@ some-reset : (found : Option Reset) → zeroed_by found ≡ Some Zeroed → (res
 some-reset (Some reset) e = (reset, refl)
 some-reset None e = cc
 
-reset-of : (op : Op) (r : Reply) (used : Option Entry) → writing_by op r used ≡ Some Zeroed → (reset : Reset) × (reset_by op r ≡ Some reset)
+pub reset-of : (op : Op) (r : Reply) (used : Option Entry) → writing_by op r used ≡ Some Zeroed → (reset : Reset) × (reset_by op r ≡ Some reset)
 reset-of (Store va value) Done used e = cc
 reset-of (Amo at amo) Done used e = cc
 reset-of (Amo at amo) (Value old) used e = cc
@@ -102,20 +102,23 @@ module _ (o : Opening) (past : List Event) (x : ℕ) where
   reset-turn (Ecall regs) r reset e = call-turn (call_of regs) r reset e
   reset-turn op r reset e = cc
 
+-- a reset empties all caches
+pub reset-empties : (o : Opening) (past : List Event) (event : Event) (h : ℕ) (reset : Reset) → answer o past event.actor event.op ≡ Ok event.reply
+    → reset_by event.op event.reply ≡ Some reset → effect_at o past event h ≡ Empties
+reset-empties o past event h reset answered is = by_actor event.actor answered
+  where
+    by_actor : (actor : Actor) → answer o past actor event.op ≡ Ok event.reply
+        → effect_by (turn_of o past actor event.op event.reply) (effect o.fences (turns o past) (turn_of o past actor event.op event.reply) h) ≡ Empties
+    by_actor (Hart x) answered =
+        subst (λ (turn : Turn Flush). effect_by turn (effect o.fences (turns o past) turn h) ≡ Empties) (sym (reset-turn o past x event.op event.reply reset is)) refl
+    by_actor Clock answered = absurd (clock_ticks o past event.op event.reply (no-tick event.op event.reply reset is) answered)
+
 -- where all words become 0, all fetched words are dropped
 pub zeroed-ends : (o : Opening) (past : List Event) (event : Event) (h : ℕ) → answer o past event.actor event.op ≡ Ok event.reply
     → writing_by event.op event.reply event.translation ≡ Some Zeroed → ends_words (effect_at o past event h) ≡ true
-zeroed-ends o past event h answered e = by_actor event.actor answered
-  where
-    found : (reset : Reset) × (reset_by event.op event.reply ≡ Some reset)
-    found = reset-of event.op event.reply event.translation e
-
-    by_actor : (actor : Actor) → answer o past actor event.op ≡ Ok event.reply
-        → ends_words (effect_by (turn_of o past actor event.op event.reply) (effect o.fences (turns o past) (turn_of o past actor event.op event.reply) h)) ≡ true
-    by_actor (Hart x) answered =
-        subst (λ (turn : Turn Flush). ends_words (effect_by turn (effect o.fences (turns o past) turn h)) ≡ true)
-        (sym (reset-turn o past x event.op event.reply found.0 found.1)) refl
-    by_actor Clock answered = absurd (clock_ticks o past event.op event.reply (no-tick event.op event.reply found.0 found.1) answered)
+zeroed-ends o past event h answered e =
+    let found = reset-of event.op event.reply event.translation e in
+    ap ends_words (reset-empties o past event h found.0 answered found.1)
 
 -- ---- the words that stay
 

@@ -27,7 +27,7 @@ use Rattle.tlb_watch.specs.Effects.{effect_on, effect_there, is_there}
 use Rattle.tlb_watch.specs.Tracked.{IsTracking, addresses_of}
 use Rattle.tlb_watch.specs.Watched.{WatchedAddress}
 use Rattle.access_marks.specs.declared.marks.Marks.{Marks}
-use Rattle.access_marks.specs.Marks.{IsMarkedAs, IsMarkedStep, unmarked}
+use Rattle.access_marks.specs.Marks.{IsMarkedAs, IsMarkedStep, IsWalkMarkedAs, IsWalkMarkedStep, unmarked}
 use Rattle.access_marks.specs.Inside.Accessed.{IsPresent}
 use Rattle.access_marks.specs.Inside.Following.{IsNext}
 
@@ -147,3 +147,20 @@ of-other o past event h m own none same =
 
 pub of-clock : (o : Opening) (past : List Event) (event : Event) (m : Marks) → event.actor ≡ Clock → m ≡ unmarked → IsMarkedStep o past event event.actor (access_of event.op) m
 of-clock o past event m own same = subst (λ (actor : Actor). IsMarkedStep o past event actor (access_of event.op) m) (sym own) same
+
+-- ---- what marks say of walks
+
+module _ (o : Opening) (past : List Event) (event : Event) where
+  pub walks-of-access : (h : ℕ) (reach : Reach) (m : Marks) → event.actor ≡ Hart h → access_of event.op ≡ Some reach → IsWalkMarkedAs o past h reach m
+      → IsWalkMarkedStep o past event.actor (access_of event.op) m
+  walks-of-access h reach m own access marked =
+      subst (λ (actor : Actor). IsWalkMarkedStep o past actor (access_of event.op) m) (sym own)
+      (subst (λ (reach : Option Reach). IsWalkMarkedStep o past (Hart h) reach m) (sym access) marked)
+
+  pub walks-of-other : (h : ℕ) (m : Marks) → event.actor ≡ Hart h → access_of event.op ≡ None → IsWalkMarkedStep o past event.actor (access_of event.op) m
+  walks-of-other h m own none =
+      subst (λ (actor : Actor). IsWalkMarkedStep o past actor (access_of event.op) m) (sym own)
+      (subst (λ (reach : Option Reach). IsWalkMarkedStep o past (Hart h) reach m) (sym none) tt)
+
+  pub walks-of-clock : (m : Marks) → event.actor ≡ Clock → IsWalkMarkedStep o past event.actor (access_of event.op) m
+  walks-of-clock m own = subst (λ (actor : Actor). IsWalkMarkedStep o past actor (access_of event.op) m) (sym own) tt

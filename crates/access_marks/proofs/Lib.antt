@@ -3,6 +3,7 @@ pub mod Wording
 pub mod Recording
 pub mod Accessing
 pub mod Following
+pub mod LoggedEvents
 pub mod MarkedSteps
 pub mod CallSteps
 pub mod MissedAccesses

@@ -1,5 +1,5 @@
 -- The places of a record, and what is there at each.
-use Rattle.std.proofs.Common.{◌≡◌, ℕ, ◌+◌, ◌<◌, List, [], ◌∷◌, ◌++◌, length, take, drop, reverse, get_or, sym, ap, subst, ◌∙◌, Option, Some, None, Ok}
+use Rattle.std.proofs.Common.{◌≡◌, ℕ, ◌+◌, ◌<◌, Bool, List, [], ◌∷◌, ◌++◌, length, take, drop, reverse, get_or, sym, ap, subst, ◌∙◌, Option, Some, None, Ok}
 use Rattle.std.specs.Prelude.{MatchOption}
 use Rattle.std.specs.List.{All}
 use Rattle.std.proofs.lemmas.List.{length-append, reverse-append, reverse-reverse, take-append-drop, take_more}
@@ -17,7 +17,7 @@ use Rattle.board_laws.proofs.Places.{legal-older}
 use Rattle.access_marks.specs.Inside.Accessed.{IsPresent, IsWatched}
 use Rattle.tlb_watch.specs.declared.hart_address.HartAddress.{HartAddress}
 use Rattle.access_marks.specs.declared.marks.Marks.{Marks}
-use Rattle.access_marks.specs.Marks.{AreMarked, IsMarkedStep}
+use Rattle.access_marks.specs.Marks.{AreMarked, AreWalksMarked, IsMarkedStep, IsWalkMarkedStep}
 use Rattle.access_marks.specs.Inside.Following.{Following, IsNext}
 
 -- ---- what is found, or isn't
@@ -80,15 +80,17 @@ legal-next o past event legal next = (next.answered, next.uses, legal)
 -- ---- a board at a place of a record
 
 -- a board that took the first events of a record
-abbrev pub at : Opening → List Event → (i : ℕ) → List HartAddress → Following
-at o events i addresses = record { course = record { opening = o; past = reverse (take i events) }; addresses = addresses }
+abbrev pub at : Opening → List Event → (i : ℕ) → List HartAddress → (walks : Bool) → Following
+at o events i addresses walks =
+    record { course = record { opening = o; past = reverse (take i events) }; addresses = addresses; walks = walks }
 
 -- a following board that took one event more
 abbrev pub after : Following → Event → Following
-after f event = record { course = record { opening = f.course.opening; past = event ∷ f.course.past }; addresses = f.addresses }
+after f event =
+    record { course = record { opening = f.course.opening; past = event ∷ f.course.past }; addresses = f.addresses; walks = f.walks }
 
-module _ (o : Opening) (events : List Event) (i : ℕ) (event : Event) (addresses : List HartAddress) (f : Following) (inside : i < length events) (is : event ≡ get_or events i event)
-    (here : f ≡ at o events i addresses) where
+module _ (o : Opening) (events : List Event) (i : ℕ) (event : Event) (addresses : List HartAddress) (walks : Bool) (f : Following) (inside : i < length events) (is : event ≡ get_or events i event)
+    (here : f ≡ at o events i addresses walks) where
   pub watched-at : All (IsWatched o.config.harts addresses) events → IsWatched f.course.opening.config.harts f.addresses event
   watched-at all =
       subst (λ (f : Following). IsWatched f.course.opening.config.harts f.addresses event) (sym here)
@@ -101,10 +103,10 @@ module _ (o : Opening) (events : List Event) (i : ℕ) (event : Event) (addresse
 
   -- it is the next one
   module _ (g : Following) (next : IsNext f.course.opening f.course.past event) (went : g ≡ after f event) where
-    pub next-at : g ≡ at o events (i + 1) addresses
+    pub next-at : g ≡ at o events (i + 1) addresses walks
     next-at =
         went ∙ ap (λ (f : Following). after f event) here
-        ∙ ap (λ (past : List Event). let one : Following = record { course = record { opening = o; past = past }; addresses = addresses } in one) (sym (one-more events i event inside is))
+        ∙ ap (λ (past : List Event). let one : Following = record { course = record { opening = o; past = past }; addresses = addresses; walks = walks } in one) (sym (one-more events i event inside is))
 
     pub still-legal : IsLegal o (reverse (take i events)) → IsLegal o (reverse (take (i + 1) events))
     still-legal legal =
@@ -117,3 +119,10 @@ module _ (o : Opening) (events : List Event) (i : ℕ) (event : Event) (addresse
         subst (λ (past : List Event). AreMarked o past (reverse (marks ++ m ∷ []))) (sym (one-more events i event inside is))
         (subst (AreMarked o (event ∷ reverse (take i events))) (sym (reverse-append marks (m ∷ [])))
         (subst (λ (f : Following). IsMarkedStep f.course.opening f.course.past event event.actor (access_of event.op) m) here marked, rest))
+
+    pub still-walked : (marks : List Marks) (m : Marks) → IsWalkMarkedStep f.course.opening f.course.past event.actor (access_of event.op) m → AreWalksMarked o (reverse (take i events)) (reverse marks)
+        → AreWalksMarked o (reverse (take (i + 1) events)) (reverse (marks ++ m ∷ []))
+    still-walked marks m marked rest =
+        subst (λ (past : List Event). AreWalksMarked o past (reverse (marks ++ m ∷ []))) (sym (one-more events i event inside is))
+        (subst (AreWalksMarked o (event ∷ reverse (take i events))) (sym (reverse-append marks (m ∷ [])))
+        (subst (λ (f : Following). IsWalkMarkedStep f.course.opening f.course.past event.actor (access_of event.op) m) here marked, rest))

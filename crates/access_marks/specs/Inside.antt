@@ -3,5 +3,6 @@ pub mod Accessed
 pub mod Calls
 pub mod Changes
 pub mod Following
+pub mod Logging
 pub mod Missing
 pub mod Words

@@ -1,5 +1,5 @@
 //! A board that takes the events of a record, and what any caches may hold after each.
-ghost use Rattle.std.specs.Prelude.{◌≡◌, ◌<◌, ◌↔◌, [], ◌∷◌, ℕ, IfOk, List, MatchOption, true};
+ghost use Rattle.std.specs.Prelude.{◌≡◌, ◌<◌, ◌↔◌, [], ◌∷◌, ℕ, IfOk, IfSome, List, MatchOption, false, is_some, true};
 ghost use Rattle.std.specs.List.{All, Contains};
 ghost use Rattle.hart_access.specs.Accesses.{place};
 ghost use Rattle.board_terms.specs.Limits.{IsGood};
@@ -9,6 +9,7 @@ ghost use Rattle.board_core.specs.Opening.{Opening, opening_at};
 ghost use Rattle.board_core.specs.Replies.{IsLegal};
 ghost use Rattle.board_laws.specs.Steady.{no_tlb};
 ghost use Rattle.any_tlb.specs.Effects.{effect_at};
+ghost use Rattle.any_tlb.specs.Firm.{IsFirm, IsFirmReach, IsLenient, IsLenientReach};
 ghost use Rattle.any_tlb.specs.Stale.{IsMissed};
 ghost use Rattle.any_tlb.specs.Steady.{IsSteady, IsSteadyFetch, IsSteadyReach};
 ghost use Rattle.tlb_watch.specs.declared.hart_address.HartAddress.{HartAddress as Place};
@@ -18,17 +19,19 @@ ghost use Rattle.access_marks.specs.Inside.Accessed.{IsPresent, IsWatched};
 ghost use Rattle.access_marks.specs.Inside.Changes.{SaysWritten};
 ghost use Rattle.access_marks.specs.Inside.Following.{IsNext};
 ghost use Rattle.access_marks.specs.Inside.Words.{AreNoted};
-ghost use Rattle.access_marks.specs.Marks.{IsMarkedAs, IsMarkedStep};
+ghost use Rattle.walk_watch.specs.Logged.{IsLogged, listed, nothing_logged};
+ghost use Rattle.access_marks.specs.Marks.{IsMarkedAs, IsMarkedStep, IsWalkMarkedAs, IsWalkMarkedStep};
 
 use crate::call_step::CallStep;
 use crate::changes::{Written, changed, written_by};
 use crate::entry_use::EntryUse;
+use crate::logging::{log_if_there, satp_before};
 use crate::marks::Marks;
 use crate::missing::UseWatches;
 use crate::registers::satps;
 use crate::taking::takes;
 use crate::words::{WordNote, differs, note_change, note_effect};
-use any_tlb::{missed_is_stale, watched_words_decide};
+use any_tlb::{firm_is_lenient, missed_is_stale, watched_words_decide};
 use board_core::{Actor, Board, Cause, Config, Entry, Event, Kind, Op};
 use board_rules::access_of;
 use hart_access::{Access, Way};
@@ -39,6 +42,7 @@ use tlb_watch::{
     CacheEffect, HartAddress, Tracker, effect_of, first_watches_are_watches, is_quiet, is_stale,
     quiet_operations_have_no_effect, trackers_follow_histories, trackers_outlast_quiet_events,
 };
+use walk_watch::WalkLog;
 
 /// A board at a place of a record, and what its harts' caches may hold there for the addresses that the record accesses.
 #[derive(Drop)]
@@ -47,26 +51,31 @@ pub(crate) struct Followed {
     tracker: Tracker,
     notes: Vec<WordNote>,
     uses: UseWatches,
+    /// None: walks aren't asked for.
+    log: Option<WalkLog>,
 }
 
 impl Model for Followed {
+    ghost use Rattle.std.specs.Prelude.{IfSome, is_some};
     ghost use Rattle.std.specs.List.{All};
     ghost use Rattle.tlb_watch.specs.Tracked.{IsTracking, addresses_of};
+    ghost use Rattle.walk_watch.specs.Logged.{IsLogged, listed};
     ghost use Rattle.access_marks.specs.Inside.Following.{Following};
     ghost use Rattle.access_marks.specs.Inside.Missing.{IsKept};
     ghost use Rattle.access_marks.specs.Inside.Words.{AreNoted};
 
     ghost Value = { Following };
 
-    ghost view = { λ f. record { course = f.board; addresses = addresses_of f.tracker } };
+    ghost view = { λ f. record { course = f.board; addresses = addresses_of f.tracker; walks = is_some f.log } };
 
     ghost invariant = { λ f. IsTracking f.board.opening f.board.past (addresses_of f.tracker) f.tracker
         × AreNoted f.board.opening f.board.past f.notes.items
-        × All (IsKept f.board.opening f.board.past) f.uses.watches.items };
+        × All (IsKept f.board.opening f.board.past) f.uses.watches.items
+        × IfSome f.log (λ log. IsLogged f.board.opening f.board.past (listed log)) };
 }
 
 impl Followed {
-    /// A board with these numbers before its first event, and the addresses to watch.
+    /// A board with these numbers before its first event, the addresses to watch, and whether to log walks.
     ///
     /// # Errors
     ///
@@ -75,12 +84,14 @@ impl Followed {
         alloc: Global,
         config: &Config,
         addresses: &[HartAddress],
+        walks: bool,
     ) -> Result<Followed, AllocError>
         requires good { IsGood config.now }
         requires present { All (λ (at : Place). at.hart < config.now.harts) addresses.now }
         ensures made { IfOk result (λ f. f ≡ record {
           course = record { opening = opening_at config.now; past = [] };
           addresses = addresses.now;
+          walks = walks;
         }) }
         ensures legal { IfOk result (λ _. IsLegal (opening_at config.now) []) }
     {
@@ -95,6 +106,7 @@ impl Followed {
             tracker,
             notes: Vec::new(alloc),
             uses: UseWatches::new(alloc),
+            log: first_log(alloc, walks),
         })
     }
 
@@ -109,6 +121,8 @@ impl Followed {
         ensures same { IfOk result (λ _. self.new ≡ self.old) }
         ensures marked { IfOk result (λ marks. IsMarkedStep self.old.course.opening self.old.course.past event.now event.now.actor
             (access_of event.now.op) marks) }
+        ensures walks { IfOk result (λ marks. self.old.walks ≡ true
+            → IsWalkMarkedStep self.old.course.opening self.old.course.past event.now.actor (access_of event.now.op) marks) }
     {
         match event.actor() {
             Actor::Hart(hart) => match access_of(event.op()) {
@@ -141,8 +155,12 @@ impl Followed {
         ensures marked { IfOk result (λ marks. (event : Step) → event.translation ≡ used
             → IsMarkedAs self.old.course.opening self.old.course.past at.hart event
             (record { va = at.address; access = access }) marks) }
+        ensures walks { IfOk result (λ marks. self.old.walks ≡ true
+            → IsWalkMarkedAs self.old.course.opening self.old.course.past at.hart
+            (record { va = at.address; access = access }) marks) }
     {
         let unsteady = !self.is_steady(at, access);
+        let (unfirm, unlenient) = self.walk_marks(alloc, at, access)?;
         let by = used;
         let stale = is_stale(&self.board, at, access, by);
         let missed = self.is_missed(alloc, at, access, used)?;
@@ -150,7 +168,37 @@ impl Followed {
             stale,
             missed,
             unsteady,
+            unfirm,
+            unlenient,
         })
+    }
+
+    /// Whether an access isn't firm, and whether it isn't lenient, if walks are logged.
+    ///
+    /// # Errors
+    ///
+    /// Out of memory.
+    fn walk_marks(
+        &self,
+        alloc: Global,
+        at: HartAddress,
+        access: Access,
+    ) -> Result<(bool, bool), AllocError>
+        requires first { self.now.course.opening ≡ opening_at self.now.course.opening.config }
+        requires present { at.hart < self.now.course.opening.config.harts }
+        ensures firm { IfOk result (λ said. self.now.walks ≡ true
+            → (said.0 ≡ false) ↔ IsFirmReach self.now.course.opening self.now.course.past at.hart
+            (record { va = at.address; access = access })) }
+        ensures lenient { IfOk result (λ said. self.now.walks ≡ true
+            → (said.1 ≡ false) ↔ IsLenientReach self.now.course.opening self.now.course.past at.hart
+            (record { va = at.address; access = access })) }
+    {
+        let Some(log) = &self.log else {
+            return Ok((false, false));
+        };
+        let firm = self.is_firm(log, alloc, at, access)?;
+        let lenient = self.is_lenient_or(log, alloc, at, access, firm)?;
+        Ok((!firm, !lenient))
     }
 
     /// Whether a fence call missed an access that uses this entry.
@@ -197,6 +245,120 @@ impl Followed {
             (record { va = at.address; access = access }) }
     {
         self.is_translated_steadily(at, access.kind()) && self.is_fetched_steadily(at, access)
+    }
+
+    /// Whether an access is firm, with the word that it fetches.
+    ///
+    /// # Errors
+    ///
+    /// Out of memory.
+    fn is_firm(
+        &self,
+        log: &WalkLog,
+        alloc: Global,
+        at: HartAddress,
+        access: Access,
+    ) -> Result<bool, AllocError>
+        requires first { self.now.course.opening ≡ opening_at self.now.course.opening.config }
+        requires present { at.hart < self.now.course.opening.config.harts }
+        requires logged { IsLogged self.now.course.opening self.now.course.past (listed log.now) }
+        ensures { IfOk result (λ firm. (firm ≡ true) ↔ IsFirmReach self.now.course.opening self.now.course.past at.hart
+            (record { va = at.address; access = access })) }
+    {
+        if !self.is_fetched_steadily(at, access) {
+            return Ok(false);
+        }
+        self.is_translated_firmly(log, alloc, at, access.kind())
+    }
+
+    /// Whether the translation of an access of this kind is firm.
+    fn is_translated_firmly(
+        &self,
+        log: &WalkLog,
+        alloc: Global,
+        at: HartAddress,
+        kind: Kind,
+    ) -> Result<bool, AllocError>
+        requires first { self.now.course.opening ≡ opening_at self.now.course.opening.config }
+        requires present { at.hart < self.now.course.opening.config.harts }
+        requires logged { IsLogged self.now.course.opening self.now.course.past (listed log.now) }
+        ensures { IfOk result (λ firm. (firm ≡ true)
+            ↔ IsFirm self.now.course.opening self.now.course.past at.hart at.address kind) }
+    {
+        let view = self.board.view();
+        let register = view.satp_register(at.hart);
+        log.is_firm(alloc, at, view.ram(), register, kind)
+    }
+
+    /// Whether an access is lenient, if one knows whether it is firm.
+    ///
+    /// # Errors
+    ///
+    /// Out of memory.
+    fn is_lenient_or(
+        &self,
+        log: &WalkLog,
+        alloc: Global,
+        at: HartAddress,
+        access: Access,
+        firm: bool,
+    ) -> Result<bool, AllocError>
+        requires first { self.now.course.opening ≡ opening_at self.now.course.opening.config }
+        requires present { at.hart < self.now.course.opening.config.harts }
+        requires logged { IsLogged self.now.course.opening self.now.course.past (listed log.now) }
+        requires known { firm ≡ true → IsFirmReach self.now.course.opening self.now.course.past at.hart
+            (record { va = at.address; access = access }) }
+        ensures { IfOk result (λ lenient. (lenient ≡ true) ↔ IsLenientReach self.now.course.opening self.now.course.past at.hart
+            (record { va = at.address; access = access })) }
+    {
+        firm_is_lenient();
+        if firm {
+            return Ok(true);
+        }
+        self.is_lenient(log, alloc, at, access)
+    }
+
+    /// Whether an access is lenient, with the word that it fetches.
+    ///
+    /// # Errors
+    ///
+    /// Out of memory.
+    fn is_lenient(
+        &self,
+        log: &WalkLog,
+        alloc: Global,
+        at: HartAddress,
+        access: Access,
+    ) -> Result<bool, AllocError>
+        requires first { self.now.course.opening ≡ opening_at self.now.course.opening.config }
+        requires present { at.hart < self.now.course.opening.config.harts }
+        requires logged { IsLogged self.now.course.opening self.now.course.past (listed log.now) }
+        ensures { IfOk result (λ lenient. (lenient ≡ true) ↔ IsLenientReach self.now.course.opening self.now.course.past at.hart
+            (record { va = at.address; access = access })) }
+    {
+        if !self.is_fetched_steadily(at, access) {
+            return Ok(false);
+        }
+        self.is_translated_leniently(log, alloc, at, access.kind())
+    }
+
+    /// Whether the translation of an access of this kind is lenient.
+    fn is_translated_leniently(
+        &self,
+        log: &WalkLog,
+        alloc: Global,
+        at: HartAddress,
+        kind: Kind,
+    ) -> Result<bool, AllocError>
+        requires first { self.now.course.opening ≡ opening_at self.now.course.opening.config }
+        requires present { at.hart < self.now.course.opening.config.harts }
+        requires logged { IsLogged self.now.course.opening self.now.course.past (listed log.now) }
+        ensures { IfOk result (λ lenient. (lenient ≡ true)
+            ↔ IsLenient self.now.course.opening self.now.course.past at.hart at.address kind) }
+    {
+        let view = self.board.view();
+        let register = view.satp_register(at.hart);
+        log.is_lenient(alloc, at, view.ram(), register, kind)
     }
 
     /// Whether the translation of an access of this kind is steady.
@@ -270,6 +432,7 @@ impl Followed {
             (λ f. IsNext self.course.opening self.course.past event.now × (f ≡ record {
               course = record { opening = self.course.opening; past = event.now ∷ self.course.past };
               addresses = self.addresses;
+              walks = self.walks;
             }))) }
     {
         let Followed {
@@ -277,14 +440,17 @@ impl Followed {
             tracker,
             mut notes,
             uses,
+            mut log,
         } = self;
         let call = CallStep::of(board.config(), event);
         let effect = effect_of(&board, event);
         let word = written_by(&board.view(), event);
+        let former = satp_before(&board, event);
         if !takes(&mut board, event) {
             return Ok(None);
         }
         note(&mut notes, &board, word, effect)?;
+        log_if_there(&mut log, &board, word, former, effect)?;
         let tracker = track(alloc, tracker, &board, event.op(), effect)?;
         let uses = uses.happened(alloc, &board, call)?;
         Ok(Some(Followed {
@@ -292,7 +458,20 @@ impl Followed {
             tracker,
             notes,
             uses,
+            log,
         }))
+    }
+}
+
+/// A log of nothing, if walks are asked for.
+fn first_log(alloc: Global, walks: bool) -> Option<WalkLog>
+    ensures there { is_some result ≡ walks }
+    ensures empty { IfSome result (λ log. listed log ≡ nothing_logged) }
+{
+    if walks {
+        Some(WalkLog::new(alloc))
+    } else {
+        None
     }
 }
 

@@ -1,4 +1,4 @@
-//! The marks of a record's accesses: which are stale, which a fence call missed, and which aren't steady.
+//! The marks of a record's accesses: which are stale, which a fence call missed, and which aren't steady, firm or lenient.
 #![tactic(auto)]
 
 mod accessed;
@@ -7,6 +7,7 @@ mod changes;
 mod entry_use;
 mod followed;
 mod laws;
+mod logging;
 mod marking;
 mod marks;
 mod missing;
@@ -15,6 +16,6 @@ mod taking;
 mod use_watch;
 mod words;
 
-pub use laws::unmarked_is_steady;
+pub use laws::{unmarked_is_firm, unmarked_is_steady};
 pub use marking::marks_of;
 pub use marks::Marks;

@@ -13,6 +13,12 @@ pub struct Marks {
     /// The access isn't steady: some TLB that the standard allows may give it another physical address or fault than the page
     /// tables, or, if it is a fetch, some instruction cache another word than the memory.
     pub unsteady: bool,
+    /// The access isn't firm: the same, where TLBs may also keep pointers and invalid entries, and walks may read words of
+    /// different times. Said only where walks are asked for.
+    pub unfirm: bool,
+    /// The access isn't lenient: the same, aside from a page fault where the page tables give a leaf. Said only where walks are asked
+    /// for.
+    pub unlenient: bool,
 }
 
 impl Marks {
@@ -24,6 +30,8 @@ impl Marks {
             stale: false,
             missed: false,
             unsteady: false,
+            unfirm: false,
+            unlenient: false,
         }
     }
 }

@@ -7,7 +7,7 @@ use std::alloc::{AllocError, Global};
 use std::str;
 
 /// Words of conditions, beside the names of operations and replies.
-const WORDS: [&[u8]; 17] = [
+const WORDS: [&[u8]; 21] = [
     b"_",
     b"after",
     b"before",
@@ -15,6 +15,8 @@ const WORDS: [&[u8]; 17] = [
     b"can",
     b"each",
     b"end",
+    b"firm",
+    b"lenient",
     b"maybe",
     b"missed",
     b"never",
@@ -24,6 +26,8 @@ const WORDS: [&[u8]; 17] = [
     b"stale",
     b"steady",
     b"stuck",
+    b"unfirm",
+    b"unlenient",
     b"unsteady",
 ];
 

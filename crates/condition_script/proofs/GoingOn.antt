@@ -12,8 +12,8 @@ use Rattle.condition_script.specs.declared.keywords.Keyword.TheVariants as keywo
 use Rattle.condition_script.specs.declared.rules.Ending.{Ending}
 use Rattle.condition_script.specs.declared.rules.Ending.TheVariants.{Quiet}
 use Rattle.condition_script.specs.declared.marks.Mark.{Mark}
-use Rattle.condition_script.specs.declared.marks.Mark.TheVariants.{Unsteady}
-use Rattle.condition_script.specs.Grammar.{AreEndings, ArePatterns, AsksNumber, Before, CanEnd, Each, End, IsAsked, IsAsking, IsNameAndNumbers, IsPattern, IsRule, IsRuleOf, IsStepPattern, Never, NeverAfter, OfSome, RuleValue, Wanted, asked_words, behind, comma_apart, ending_word, ends_meant, has_mark, is_mark, mark_name, marked, most_numbers, rule_value, up_to, with_commas}
+use Rattle.condition_script.specs.declared.marks.Mark.TheVariants.{Unfirm, Unlenient, Unsteady}
+use Rattle.condition_script.specs.Grammar.{AreEndings, ArePatterns, AsksNumber, Before, CanEnd, Each, End, IsAsked, IsAsking, IsNameAndNumbers, IsPattern, IsRule, IsRuleOf, IsStepPattern, IsWithout, Never, NeverAfter, OfSome, RuleValue, Wanted, asked_words, behind, comma_apart, ending_word, ends_meant, has_mark, is_mark, mark_name, marked, most_numbers, rule_value, up_to, with_commas}
 use Rattle.std.specs.Borrow.{Bor}
 use Rattle.condition_script.specs.declared.faults.Unread.{Unread}
 use Rattle.condition_script.specs.declared.faults.Wrong.{Wrong}
@@ -411,11 +411,14 @@ can_goes (word ∷ words) more asked x =
     let front = can_front words more x.1 x.0 (let e = x.3 in cc) x.4 x.5 in
     goes (IsOf keywords.Can) (word ∷ words) (inl (CanEnd (ends_meant front.0), (front.0, words, refl, ap (λ w. w ∷ words) first, front.1, front.2)))
 
-steady_goes : (words more : List (List ℕ)) (asked : RuleValue) → IsRuleOf keywords.Steady (words ++ more) asked → GoesOn (IsOf keywords.Steady) words
-steady_goes [] more asked x = goes (IsOf keywords.Steady) [] (inl (Never (marked Unsteady (None ∷ [])), (None ∷ [], refl, refl)))
-steady_goes (actor ∷ words) more asked x =
+abbrev IsWithoutOf : Mark → List (List ℕ) → Type 0
+IsWithoutOf mark words = (asked : RuleValue) × IsWithout mark words asked
+
+without_goes : (mark : Mark) (words more : List (List ℕ)) (asked : RuleValue) → IsWithout mark (words ++ more) asked → GoesOn (IsWithoutOf mark) words
+without_goes mark [] more asked x = goes (IsWithoutOf mark) [] (inl (Never (marked mark (None ∷ [])), (None ∷ [], refl, refl)))
+without_goes mark (actor ∷ words) more asked x =
     let front = step_front actor words more x.0 x.2 in
-    goes (IsOf keywords.Steady) (actor ∷ words) (inl (Never (marked Unsteady front.0), (front.0, refl, front.1)))
+    goes (IsWithoutOf mark) (actor ∷ words) (inl (Never (marked mark front.0), (front.0, refl, front.1)))
 
 keyword_goes : (keyword : Keyword) (words more : List (List ℕ)) (asked : RuleValue) → IsRuleOf keyword (words ++ more) asked → GoesOn (IsOf keyword) words
 keyword_goes keywords.Never words more asked x = goes (IsOf keywords.Never) words (never_goes words more asked x)
@@ -424,7 +427,9 @@ keyword_goes keywords.Each words more asked x = each_goes words more asked x
 keyword_goes keywords.End words more asked x = end_goes words more asked x
 keyword_goes keywords.Before words more asked x = before_goes words more asked x
 keyword_goes keywords.Can words more asked x = can_goes words more asked x
-keyword_goes keywords.Steady words more asked x = steady_goes words more asked x
+keyword_goes keywords.Steady words more asked x = without_goes Unsteady words more asked x
+keyword_goes keywords.Firm words more asked x = without_goes Unfirm words more asked x
+keyword_goes keywords.Lenient words more asked x = without_goes Unlenient words more asked x
 
 -- ---- conditions
 

@@ -11,7 +11,7 @@ use Rattle.line_words.specs.Values.{is_number, number_in, signed_in}
 use Rattle.condition_script.specs.declared.keywords.Keyword.{Keyword}
 use Rattle.condition_script.specs.declared.keywords.Keyword.TheVariants as keywords
 use Rattle.condition_script.specs.declared.marks.Mark.{Mark}
-use Rattle.condition_script.specs.declared.marks.Mark.TheVariants.{Missed, Stale, Unsteady}
+use Rattle.condition_script.specs.declared.marks.Mark.TheVariants.{Missed, Stale, Unfirm, Unlenient, Unsteady}
 use Rattle.condition_script.specs.declared.rules.Ending.{Ending}
 use Rattle.condition_script.specs.declared.rules.Ending.TheVariants as endings
 use Rattle.condition_script.specs.Grammar.{ending_named, ending_word, keyword_named, keyword_word, mark_name, mark_named, number_item}
@@ -95,6 +95,8 @@ keyword_own keywords.End = refl
 keyword_own keywords.Before = refl
 keyword_own keywords.Can = refl
 keyword_own keywords.Steady = refl
+keyword_own keywords.Firm = refl
+keyword_own keywords.Lenient = refl
 
 pub maybe_is_no_keyword : keyword_named (codes "maybe") ≡ None
 unfolding keyword_named
@@ -114,6 +116,8 @@ unfolding mark_named
 mark_own Stale = refl
 mark_own Missed = refl
 mark_own Unsteady = refl
+mark_own Unfirm = refl
+mark_own Unlenient = refl
 
 pub any_is_no_mark : mark_named (codes "_") ≡ None
 unfolding mark_named
@@ -128,12 +132,16 @@ unfolding said_named
 mark_is_no_said Stale = refl
 mark_is_no_said Missed = refl
 mark_is_no_said Unsteady = refl
+mark_is_no_said Unfirm = refl
+mark_is_no_said Unlenient = refl
 
 pub mark_is_no_hart : (limit : ℕ) (mark : Mark) → number_in limit (mark_name mark) ≡ None
 unfolding number_in is_number
 mark_is_no_hart limit Stale = refl
 mark_is_no_hart limit Missed = refl
 mark_is_no_hart limit Unsteady = refl
+mark_is_no_hart limit Unfirm = refl
+mark_is_no_hart limit Unlenient = refl
 
 -- ---- numbers
 

@@ -11,7 +11,7 @@ use Rattle.condition_script.specs.declared.items.Item.{Item}
 use Rattle.condition_script.specs.declared.keywords.Keyword.{Keyword}
 use Rattle.condition_script.specs.declared.keywords.Keyword.TheVariants as keywords
 use Rattle.condition_script.specs.declared.marks.Mark.{Mark}
-use Rattle.condition_script.specs.declared.marks.Mark.TheVariants.{Missed, Stale, Unsteady}
+use Rattle.condition_script.specs.declared.marks.Mark.TheVariants.{Missed, Stale, Unfirm, Unlenient, Unsteady}
 use Rattle.condition_script.specs.Grammar.{AreEndings, ArePatterns, AsksActor, AsksName, AsksNumber, BeginsAsking, ConditionValue, HasCondition, HaveConditions, IsAsked, IsAsking, IsNameAndNumbers, IsNameOf, IsOperation, IsPattern, IsRule, IsRuleOf, IsStepOrAny, IsStepPattern, RuleValue, Wanted, asked_words, ending_named, ending_word, has_mark, keyword_named, keyword_word, mark_name, mark_named, number_item, with_commas}
 use Rattle.condition_script.specs.declared.rules.Ending.{Ending}
 use Rattle.condition_script.specs.FirstFault.{HasOneReading, IsBeginning, IsCondition, IsFaultColumn, IsFirstUnreadable, IsLongestBeginning, IsReadable, IsUnreadable, column_behind}
@@ -118,6 +118,8 @@ no_arrow : (mark : Mark) → has_mark (codes "->") (mark_name mark ∷ []) ≡ t
 no_arrow Stale e = cc
 no_arrow Missed e = cc
 no_arrow Unsteady e = cc
+no_arrow Unfirm e = cc
+no_arrow Unlenient e = cc
 
 pub no_after : (mark : Mark) (words : List (List ℕ)) → words ≡ mark_name mark ∷ [] → has_mark (codes "after") words ≡ true → ⊥
 no_after mark words is e = by_mark mark (subst (λ (ws : List (List ℕ)). has_mark (codes "after") ws ≡ true) is e)
@@ -126,6 +128,8 @@ no_after mark words is e = by_mark mark (subst (λ (ws : List (List ℕ)). has_m
     by_mark Stale e = cc
     by_mark Missed e = cc
     by_mark Unsteady e = cc
+    by_mark Unfirm e = cc
+    by_mark Unlenient e = cc
 
 mark_is_no_pattern : (mark : Mark) (p : Wanted) → IsPattern (mark_name mark ∷ []) p → ⊥
 mark_is_no_pattern mark p (inl x) = actor_is_no_mark mark x.1.0 x.1.3
@@ -182,6 +186,8 @@ asks_one keywords.Can words a b x y =
     let same = endings_one x.1 x.0 y.0 x.5 (subst (λ (w : List (List ℕ)). AreEndings w y.0) others y.5) in
     rw (x.2, y.2, same) refl
 asks_one keywords.Steady words a b x y = rw (x.1, y.1, step_or_any_one words x.0 y.0 x.2 y.2) refl
+asks_one keywords.Firm words a b x y = rw (x.1, y.1, step_or_any_one words x.0 y.0 x.2 y.2) refl
+asks_one keywords.Lenient words a b x y = rw (x.1, y.1, step_or_any_one words x.0 y.0 x.2 y.2) refl
 
 asked_one : (words : List (List ℕ)) (a b : RuleValue) → IsAsked words a → IsAsked words b → a ≡ b
 asked_one [] a b x y = absurd x

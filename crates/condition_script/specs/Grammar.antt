@@ -17,7 +17,7 @@ use Rattle.condition_script.specs.declared.items.Item.TheVariants.{Word, Number,
 use Rattle.condition_script.specs.declared.keywords.Keyword.{Keyword}
 use Rattle.condition_script.specs.declared.keywords.Keyword.TheVariants as keywords
 use Rattle.condition_script.specs.declared.marks.Mark.{Mark}
-use Rattle.condition_script.specs.declared.marks.Mark.TheVariants.{Missed, Stale, Unsteady}
+use Rattle.condition_script.specs.declared.marks.Mark.TheVariants.{Missed, Stale, Unfirm, Unlenient, Unsteady}
 use Rattle.condition_script.specs.declared.names.Name.TheVariants.{Clock, Op, Said}
 use Rattle.condition_script.specs.declared.names.Name.TheVariants as names
 use Rattle.condition_script.specs.declared.patterns.Pattern.{Pattern}
@@ -89,9 +89,11 @@ abbrev pub mark_name : Mark → List ℕ
 mark_name Stale = codes "stale"
 mark_name Missed = codes "missed"
 mark_name Unsteady = codes "unsteady"
+mark_name Unfirm = codes "unfirm"
+mark_name Unlenient = codes "unlenient"
 
 abbrev pub mark_names : List Mark
-mark_names = Stale ∷ Missed ∷ Unsteady ∷ []
+mark_names = Stale ∷ Missed ∷ Unsteady ∷ Unfirm ∷ Unlenient ∷ []
 
 -- the mark that a word names
 unfoldable pub mark_named : List ℕ → Option Mark
@@ -209,9 +211,13 @@ keyword_word keywords.End = codes "end"
 keyword_word keywords.Before = codes "before"
 keyword_word keywords.Can = codes "can"
 keyword_word keywords.Steady = codes "steady"
+keyword_word keywords.Firm = codes "firm"
+keyword_word keywords.Lenient = codes "lenient"
 
 abbrev pub keyword_names : List Keyword
-keyword_names = keywords.Never ∷ keywords.Some ∷ keywords.Each ∷ keywords.End ∷ keywords.Before ∷ keywords.Can ∷ keywords.Steady ∷ []
+keyword_names =
+    keywords.Never ∷ keywords.Some ∷ keywords.Each ∷ keywords.End ∷ keywords.Before ∷ keywords.Can
+    ∷ keywords.Steady ∷ keywords.Firm ∷ keywords.Lenient ∷ []
 
 -- the keyword that a word is
 unfoldable pub keyword_named : List ℕ → Option Keyword
@@ -251,7 +257,12 @@ comma_apart word = if has_comma word then take (length word - 1) word ∷ codes 
 abbrev pub with_commas : List (List ℕ) → List (List ℕ)
 with_commas words = flat_map comma_apart words
 
--- What the words after a keyword ask. `never MARK` is `never _ -> MARK`, and `steady P` is `never P -> unsteady`.
+-- No step of a pattern has the mark.
+abbrev pub IsWithout : Mark → List (List ℕ) → RuleValue → Type 0
+IsWithout mark words asked = (step : List (Option Item)) × (asked ≡ Never (marked mark step)) × IsStepOrAny words step
+
+-- What the words after a keyword ask. `never MARK` is `never _ -> MARK`, `steady P` is `never P -> unsteady`, and `firm P` and
+-- `lenient P` are so of `unfirm` and `unlenient`.
 abbrev pub IsRuleOf : Keyword → List (List ℕ) → RuleValue → Type 0
 IsRuleOf keywords.Never words asked =
     ((p : Wanted) × (asked ≡ Never p) × (has_mark (codes "after") words ≡ false) × IsPattern words p)
@@ -265,8 +276,9 @@ IsRuleOf keywords.Before words asked =
 IsRuleOf keywords.Can words asked =
     (ends : List Ending) × (others : List (List ℕ)) × (asked ≡ CanEnd (ends_meant ends)) × (words ≡ codes "end" ∷ others)
     × (has_mark (codes "history-full") others ≡ false) × AreEndings others ends
-IsRuleOf keywords.Steady words asked =
-    (step : List (Option Item)) × (asked ≡ Never (marked Unsteady step)) × IsStepOrAny words step
+IsRuleOf keywords.Steady words asked = IsWithout Unsteady words asked
+IsRuleOf keywords.Firm words asked = IsWithout Unfirm words asked
+IsRuleOf keywords.Lenient words asked = IsWithout Unlenient words asked
 
 -- The words of a condition.
 abbrev pub IsAsked : List (List ℕ) → RuleValue → Type 0

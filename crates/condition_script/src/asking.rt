@@ -1,6 +1,6 @@
 //! Reads the words of a condition.
 ghost use Rattle.std.specs.Prelude.{◌≡◌, ◌+◌, ◌<◌, ◌∷◌, [], Bool, IfOk, MatchOption, None, drop, length, take};
-ghost use Rattle.condition_script.specs.Grammar.{AreEndings, Never as NeverValue, RuleValue, IsRuleOf, IsAsked, IsPattern, IsRule, Wanted, mark_name, marked, rule_value, wanted};
+ghost use Rattle.condition_script.specs.Grammar.{AreEndings, Never as NeverValue, RuleValue, IsRuleOf, IsAsked, IsPattern, IsRule, IsWithout, Wanted, mark_name, marked, rule_value, wanted};
 ghost use Rattle.condition_script.specs.Inside.Reading.{Gives, texts};
 ghost use Rattle.condition_script.specs.declared.keywords.Keyword.TheVariants as keywords;
 ghost use Rattle.condition_script.specs.declared.marks.Mark.{Mark as Marking};
@@ -53,7 +53,9 @@ fn asks(alloc: Global, keyword: Keyword, words: &[Word<'_>]) -> Result<Rule, Wro
         Keyword::End => ends(alloc, words),
         Keyword::Before => ordered(alloc, words),
         Keyword::Can => can_end(alloc, words),
-        Keyword::Steady => steady(alloc, words),
+        Keyword::Steady => without(alloc, Mark::Unsteady, words),
+        Keyword::Firm => without(alloc, Mark::Unfirm, words),
+        Keyword::Lenient => without(alloc, Mark::Unlenient, words),
     }
 }
 
@@ -107,12 +109,12 @@ fn lone_mark(words: &[Word<'_>]) -> Option<Mark>
     }
 }
 
-/// No step of a pattern is unsteady.
-fn steady(alloc: Global, words: &[Word<'_>]) -> Result<Rule, Wrong>
-    ensures { Gives rule_value (IsRuleOf keywords.Steady (texts words.now)) result }
+/// No step of a pattern has the mark.
+fn without(alloc: Global, mark: Mark, words: &[Word<'_>]) -> Result<Rule, Wrong>
+    ensures { Gives rule_value (IsWithout mark (texts words.now)) result }
 {
     let step = step_or_any(alloc, words)?;
-    Ok(Rule::Never(marked(alloc, Mark::Unsteady, step)?))
+    Ok(Rule::Never(marked(alloc, mark, step)?))
 }
 
 /// The pattern of a step with this mark in the place of its reply.

@@ -19,6 +19,10 @@ pub enum Keyword {
     Can,
     /// `steady`
     Steady,
+    /// `firm`
+    Firm,
+    /// `lenient`
+    Lenient,
 }
 
 impl Keyword {
@@ -35,6 +39,8 @@ impl Keyword {
             b"before" => Some(Keyword::Before),
             b"can" => Some(Keyword::Can),
             b"steady" => Some(Keyword::Steady),
+            b"firm" => Some(Keyword::Firm),
+            b"lenient" => Some(Keyword::Lenient),
             _ => None,
         }
     }

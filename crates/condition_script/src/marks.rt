@@ -11,6 +11,10 @@ pub enum Mark {
     Missed,
     /// `unsteady`: what the access gets depends on what a TLB or an instruction cache holds.
     Unsteady,
+    /// `unfirm`: the same, where a TLB may also keep pointers and invalid entries.
+    Unfirm,
+    /// `unlenient`: the same, aside from a page fault where the page tables give a leaf.
+    Unlenient,
 }
 
 impl Mark {
@@ -23,6 +27,8 @@ impl Mark {
             b"stale" => Some(Mark::Stale),
             b"missed" => Some(Mark::Missed),
             b"unsteady" => Some(Mark::Unsteady),
+            b"unfirm" => Some(Mark::Unfirm),
+            b"unlenient" => Some(Mark::Unlenient),
             _ => None,
         }
     }
@@ -35,6 +41,8 @@ impl Mark {
             Mark::Stale => b"stale",
             Mark::Missed => b"missed",
             Mark::Unsteady => b"unsteady",
+            Mark::Unfirm => b"unfirm",
+            Mark::Unlenient => b"unlenient",
         }
     }
 }

@@ -42,7 +42,8 @@ impl Ending {
 /// A condition on records.
 #[derive(Debug, Drop)]
 pub enum Rule {
-    /// `never P`: P matches no step. So are `never MARK`, of any step, and `steady P`, of the mark `unsteady`.
+    /// `never P`: P matches no step. So are `never MARK`, of any step, and `steady P`, `firm P` and `lenient P`, of the marks
+    /// `unsteady`, `unfirm` and `unlenient`.
     Never(Pattern),
     /// `never P after Q`: no step that P matches comes later than one that Q matches.
     NeverAfter(Pattern, Pattern),

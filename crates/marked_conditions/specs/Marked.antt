@@ -5,7 +5,7 @@ use Rattle.board_core.specs.History.{Event}
 use Rattle.condition_script.specs.declared.items.Item.{Item}
 use Rattle.condition_script.specs.declared.items.Item.TheVariants.{Word}
 use Rattle.condition_script.specs.declared.marks.Mark.{Mark}
-use Rattle.condition_script.specs.declared.marks.Mark.TheVariants.{Missed, Stale, Unsteady}
+use Rattle.condition_script.specs.declared.marks.Mark.TheVariants.{Missed, Stale, Unfirm, Unlenient, Unsteady}
 use Rattle.condition_script.specs.declared.names.Name.TheVariants as names
 use Rattle.condition_script.specs.declared.patterns.Pattern.{Pattern}
 use Rattle.condition_script.specs.declared.rules.Ending.{Ending}
@@ -21,6 +21,8 @@ abbrev pub told_mark : Mark → Marks → Bool
 told_mark Stale marks = marks.stale
 told_mark Missed marks = marks.missed
 told_mark Unsteady marks = marks.unsteady
+told_mark Unfirm marks = marks.unfirm
+told_mark Unlenient marks = marks.unlenient
 
 -- the mark that a word is
 abbrev pub mark_in : Option (Option Item) → Option Mark
@@ -113,3 +115,22 @@ asks_of_marks (Each p) = asks p
 asks_of_marks (End ends) = false
 asks_of_marks (Before p q) = asks p || asks q
 asks_of_marks (CanEnd ends) = false
+
+-- whether a mark says something of walks
+abbrev pub is_of_walks : Option Mark → Bool
+is_of_walks None = false
+is_of_walks (Some Stale) = false
+is_of_walks (Some Missed) = false
+is_of_walks (Some Unsteady) = false
+is_of_walks (Some Unfirm) = true
+is_of_walks (Some Unlenient) = true
+
+-- whether a condition asks which accesses aren't firm or lenient
+abbrev pub asks_of_walks : Rule → Bool
+asks_of_walks (Never p) = is_of_walks (mark_of p)
+asks_of_walks (NeverAfter p q) = is_of_walks (mark_of p) || is_of_walks (mark_of q)
+asks_of_walks (OfSome p) = is_of_walks (mark_of p)
+asks_of_walks (Each p) = is_of_walks (mark_of p)
+asks_of_walks (End ends) = false
+asks_of_walks (Before p q) = is_of_walks (mark_of p) || is_of_walks (mark_of q)
+asks_of_walks (CanEnd ends) = false

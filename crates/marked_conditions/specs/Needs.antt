@@ -9,7 +9,7 @@ use Rattle.board_terms.specs.declared.op.Op.TheVariants.{Fetch}
 use Rattle.board_terms.specs.declared.reply.Reply.{Reply}
 use Rattle.board_terms.specs.declared.reply.Reply.TheVariants.{Fault, Value}
 use Rattle.condition_script.specs.declared.marks.Mark.{Mark}
-use Rattle.condition_script.specs.declared.marks.Mark.TheVariants.{Missed, Stale, Unsteady}
+use Rattle.condition_script.specs.declared.marks.Mark.TheVariants.{Missed, Stale, Unfirm, Unlenient, Unsteady}
 use Rattle.condition_script.specs.declared.patterns.Pattern.{Pattern}
 use Rattle.condition_script.specs.declared.rules.Rule.{Rule}
 use Rattle.condition_script.specs.declared.rules.Rule.TheVariants.{Never, NeverAfter, OfSome, Each, End, Before, CanEnd}
@@ -38,12 +38,18 @@ abbrev pub is_page_fault : Reply → Bool
 is_page_fault (Fault cause) = is_of_page_fault cause
 is_page_fault reply = false
 
+-- whether a step is an access that used an entry, that an entry could have kept from its page fault, or that fetched a word
+abbrev pub could_fetch : Event → Bool
+could_fetch e = is_some e.translation || (is_page_fault e.reply || (is_fetch e.op && is_word e.reply))
+
 -- Whether a step without the mark could have had it by other entries or fetched words: of `stale` and `missed` an access that used an entry,
--- or that an entry could have kept from its page fault; of `unsteady` also one that fetched a word.
+-- or that an entry could have kept from its page fault; of the other marks also one that fetched a word.
 abbrev pub could_have : Mark → Event → Bool
 could_have Stale e = is_some e.translation || is_page_fault e.reply
 could_have Missed e = is_some e.translation || is_page_fault e.reply
-could_have Unsteady e = is_some e.translation || (is_page_fault e.reply || (is_fetch e.op && is_word e.reply))
+could_have Unsteady e = could_fetch e
+could_have Unfirm e = could_fetch e
+could_have Unlenient e = could_fetch e
 
 -- Whether a mark tells something of a step with these marks: it has the mark, or could have had it.
 abbrev pub is_telling : Mark → Event → Marks → Bool

@@ -96,13 +96,13 @@ fn is_telling(mark: Mark, event: &Event, marks: Marks) -> bool
 }
 
 /// Whether other entries or fetched words could have given a step the mark: it used an entry, an entry could have kept it from
-/// its page fault, or, of `unsteady`, it fetched a word.
+/// its page fault, or, of `unsteady`, `unfirm` and `unlenient`, it fetched a word.
 fn could_have(mark: Mark, event: &Event) -> bool
     ensures { result ≡ could_have mark event.now }
 {
     match mark {
         Mark::Stale | Mark::Missed => event.translation().is_some() || is_page_fault(event.reply()),
-        Mark::Unsteady => {
+        Mark::Unsteady | Mark::Unfirm | Mark::Unlenient => {
             event.translation().is_some()
                 || (is_page_fault(event.reply())
                     || (is_fetch(event.op()) && is_word(event.reply())))

@@ -41,5 +41,7 @@ pub(crate) fn told_mark(mark: Mark, marks: Marks) -> bool
         Mark::Stale => marks.stale,
         Mark::Missed => marks.missed,
         Mark::Unsteady => marks.unsteady,
+        Mark::Unfirm => marks.unfirm,
+        Mark::Unlenient => marks.unlenient,
     }
 }

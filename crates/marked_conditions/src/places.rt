@@ -1,13 +1,13 @@
 //! Where a record fails a condition that asks of marks.
 ghost use Rattle.std.specs.Prelude.{◌≡◌, length};
 ghost use Rattle.condition_script.specs.declared.rules.Rule.TheVariants.{NeverAfter};
-ghost use Rattle.marked_conditions.specs.Marked.{IsFailingWith, asks, asks_of_marks};
+ghost use Rattle.marked_conditions.specs.Marked.{IsFailingWith, asks, asks_of_marks, asks_of_walks, is_of_walks, mark_of};
 
 use crate::patterns::mark_of;
 use crate::rules::{first_unfit, first_with};
 use access_marks::Marks;
 use board_core::Event;
-use conditions::{Pattern, Rule};
+use conditions::{Mark, Pattern, Rule};
 
 /// Whether a condition asks of marks.
 pub fn asks_of_marks(rule: &Rule) -> bool
@@ -27,6 +27,26 @@ fn asks(p: &Pattern) -> bool
     ensures { result ≡ asks p.now }
 {
     mark_of(p).is_some()
+}
+
+/// Whether a condition asks which accesses aren't firm or lenient.
+pub fn asks_of_walks(rule: &Rule) -> bool
+    ensures { result ≡ asks_of_walks rule.now }
+{
+    match rule {
+        Rule::Never(p) | Rule::OfSome(p) | Rule::Each(p) => is_of_walks(p),
+        Rule::NeverAfter(p, q) | Rule::Before(p, q) => is_of_walks(p) || is_of_walks(q),
+        Rule::End(_) | Rule::CanEnd(_) => false,
+    }
+}
+
+fn is_of_walks(p: &Pattern) -> bool
+    ensures { result ≡ is_of_walks (mark_of p.now) }
+{
+    match mark_of(p) {
+        Some(Mark::Unfirm | Mark::Unlenient) => true,
+        Some(Mark::Stale | Mark::Missed | Mark::Unsteady) | None => false,
+    }
 }
 
 /// The place of the first step with which a record fails a condition: for `before` the first that its second pattern matches; for

@@ -29,14 +29,15 @@ module _ (rule : Rule) (x : Tried) (asks : Bool) (events : List Event) (is : ask
 
 -- ---- whether some condition asks
 
-abbrev pub NoneAsks : List Condition → ℕ → Type 0
-NoneAsks conditions n = (k : ℕ) → k < n → (c : Condition) → slice_get conditions k ≡ Some c → asks_of_marks c.rule ≡ true → ⊥
+module _ (of : Rule → Bool) where
+  abbrev pub NoneAsks : List Condition → ℕ → Type 0
+  NoneAsks conditions n = (k : ℕ) → k < n → (c : Condition) → slice_get conditions k ≡ Some c → of c.rule ≡ true → ⊥
 
-pub none-asks-next : (conditions : List Condition) (n : ℕ) (d : Condition) (asks : Bool) → d ≡ get_or conditions n d → asks ≡ asks_of_marks d.rule → asks ≡ false
-    → NoneAsks conditions n → NoneAsks conditions (n + 1)
-none-asks-next conditions n d asks is tells bare before =
-    let P : ℕ → Type 0 = λ k. (c : Condition) → slice_get conditions k ≡ Some c → asks_of_marks c.rule ≡ true → ⊥ in
-    below_more P n before (λ c at asked.
-    let same : c ≡ d = sym (get_or_from_slice_get conditions n c d at) ∙ sym is in
-    let here : asks_of_marks d.rule ≡ true = subst (λ (c : Condition). asks_of_marks c.rule ≡ true) same asked in
-    absurd (let t = sym bare ∙ tells ∙ here in cc))
+  pub none-asks-next : (conditions : List Condition) (n : ℕ) (d : Condition) (asks : Bool) → d ≡ get_or conditions n d → asks ≡ of d.rule → asks ≡ false
+      → NoneAsks conditions n → NoneAsks conditions (n + 1)
+  none-asks-next conditions n d asks is tells bare before =
+      let P : ℕ → Type 0 = λ k. (c : Condition) → slice_get conditions k ≡ Some c → of c.rule ≡ true → ⊥ in
+      below_more P n before (λ c at asked.
+      let same : c ≡ d = sym (get_or_from_slice_get conditions n c d at) ∙ sym is in
+      let here : of d.rule ≡ true = subst (λ (c : Condition). of c.rule ≡ true) same asked in
+      absurd (let t = sym bare ∙ tells ∙ here in cc))

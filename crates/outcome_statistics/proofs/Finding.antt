@@ -3,8 +3,6 @@ use Rattle.std.proofs.Common.{◌≡◌, ℕ, ◌+◌, List, [], ◌∷◌, ◌+
 use Rattle.std.specs.Prelude.{reverse}
 use Rattle.std.proofs.lemmas.List.{reverse-reverse}
 use Rattle.access_marks.specs.declared.marks.Marks.{Marks}
-use Rattle.access_marks.specs.Marks.{AreMarked}
-use Rattle.board_core.specs.Opening.{opening_at}
 use Rattle.board_terms.specs.declared.config.Config.{Config}
 use Rattle.board_core.specs.History.{Event}
 use Rattle.conditions.specs.Condition.{Condition}
@@ -17,7 +15,7 @@ use Rattle.guest_programs.specs.Steps.{task_in, task_of}
 use Rattle.outcome_statistics.specs.declared.findings.Findings.{Findings}
 use Rattle.conditions.specs.Endings.{ending}
 use Rattle.outcome_statistics.specs.Records.{Tried}
-use Rattle.outcome_statistics.specs.Findings.{AreFound, AreFoundOf, AreOrders, AskOfMarks, IsOrder}
+use Rattle.outcome_statistics.specs.Findings.{AreFound, AreFoundOf, AreMarkedFor, AreOrders, AskOfMarks, IsOrder}
 
 orders-behind : (c : Config) (content : Content) (conditions : List Condition) (seed from mid to : ℕ) (xs ys : List Tried) → AreOrders c content conditions seed from xs mid
     → AreOrders c content conditions seed mid ys to → AreOrders c content conditions seed from (ys ++ xs) to
@@ -34,13 +32,13 @@ found-none c content conditions seed from found none = ([], refl, none)
 
 -- one order more
 pub found-next : (c : Config) (content : Content) (conditions : List Condition) (seed from i : ℕ) (past : List Event) (marks : List Marks) (end : End) (before after : Findings) (harts : ℕ) → harts ≡ c.harts
-    → IsTried c (task_of content) seed i past end → (AskOfMarks conditions → AreMarked (opening_at c) past (reverse marks))
+    → IsTried c (task_of content) seed i past end → (AskOfMarks conditions → AreMarkedFor conditions c past marks)
     → ((tried : List Tried) (x : Tried) → x.number ≡ i → x.events ≡ reverse past → x.marks ≡ marks → x.end ≡ ending end → AreFound harts conditions tried before → AreFound harts conditions (x ∷ tried) after)
     → AreFoundOf c content conditions seed from i before → AreFoundOf c content conditions seed from (i + 1) after
 found-next c content conditions seed from i past marks end before after harts same is marked sees found =
     let x : Tried = record { number = i; events = reverse past; marks = marks; end = ending end } in
     let P : List Event → Type 0 = λ xs. IsTried c (task_of content) seed i xs end in
-    let M : List Event → Type 0 = λ xs. AreMarked (opening_at c) xs (reverse marks) in
+    let M : List Event → Type 0 = λ xs. AreMarkedFor conditions c xs marks in
     let order : IsOrder c content conditions seed x = (end, refl, subst P (sym (reverse-reverse past)) is, (λ ask. subst M (sym (reverse-reverse past)) (marked ask))) in (
       x ∷ found.0,
       (refl, order, found.1),

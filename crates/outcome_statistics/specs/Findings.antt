@@ -1,6 +1,8 @@
 -- What was found of the orders of a program (profile).
-use Rattle.std.specs.Prelude.{◌≡◌, ◌≢◌, ℕ, ◌+◌, true, List, [], ◌∷◌, length, reverse, slice_get, Some, None}
-use Rattle.access_marks.specs.Marks.{AreMarked}
+use Rattle.std.specs.Prelude.{◌≡◌, ◌≢◌, ℕ, ◌+◌, Bool, true, List, [], ◌∷◌, length, reverse, slice_get, Some, None}
+use Rattle.access_marks.specs.declared.marks.Marks.{Marks}
+use Rattle.access_marks.specs.Marks.{AreMarked, AreWalksMarked}
+use Rattle.board_core.specs.History.{Event}
 use Rattle.board_core.specs.Opening.{opening_at}
 use Rattle.board_terms.specs.declared.config.Config.{Config}
 use Rattle.conditions.specs.Condition.{Condition}
@@ -12,7 +14,7 @@ use Rattle.guest_script.specs.Grammar.{Content}
 use Rattle.guest_programs.specs.declared.ends.End.{End}
 use Rattle.seeded_orders.specs.Orders.{IsTried}
 use Rattle.guest_programs.specs.Steps.{task_of}
-use Rattle.marked_conditions.specs.Marked.{asks_of_marks}
+use Rattle.marked_conditions.specs.Marked.{asks_of_marks, asks_of_walks}
 use Rattle.outcome_statistics.specs.declared.ends.Ends.{Ends}
 use Rattle.outcome_statistics.specs.declared.findings.Findings.{Findings}
 use Rattle.outcome_statistics.specs.declared.findings.Judged.{Judged}
@@ -55,14 +57,28 @@ pub record AreFound (harts : ℕ) (conditions : List Condition) (tried : List Tr
   pub records : AreRecords tried found.records
   pub visits : AreVisited harts tried found.visits
 
+-- some condition asks of something
+abbrev pub AskOf : (asks : Rule → Bool) → List Condition → Type 0
+AskOf asks conditions = (k : ℕ) × (condition : Condition) × (slice_get conditions k ≡ Some condition)
+    × (asks condition.rule ≡ true)
+
 -- some condition asks of marks
 abbrev pub AskOfMarks : List Condition → Type 0
-AskOfMarks conditions = (k : ℕ) × (condition : Condition) × (slice_get conditions k ≡ Some condition)
-    × (asks_of_marks condition.rule ≡ true)
+AskOfMarks conditions = AskOf asks_of_marks conditions
+
+-- some condition asks which accesses aren't firm or lenient
+abbrev pub AskOfWalks : List Condition → Type 0
+AskOfWalks conditions = AskOf asks_of_walks conditions
+
+-- The marks, oldest first, are those of a history on a board with these numbers. What they say of walks is, too, where some
+-- condition asks of that.
+abbrev pub AreMarkedFor : List Condition → Config → List Event → List Marks → Type 0
+AreMarkedFor conditions c past marks = AreMarked (opening_at c) past (reverse marks)
+    × (AskOfWalks conditions → AreWalksMarked (opening_at c) past (reverse marks))
 
 -- If some condition asks of them, the record has the marks of its accesses, on a board with these numbers.
 abbrev pub HasMarks : Config → List Condition → Tried → Type 0
-HasMarks c conditions x = AskOfMarks conditions → AreMarked (opening_at c) (reverse x.events) (reverse x.marks)
+HasMarks c conditions x = AskOfMarks conditions → AreMarkedFor conditions c (reverse x.events) x.marks
 
 -- The record, with its marks and its end, is that of the order that the seed and its number pick.
 abbrev pub IsOrder : Config → Content → List Condition → (seed : ℕ) → Tried → Type 0

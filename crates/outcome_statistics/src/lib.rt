@@ -19,7 +19,7 @@ pub use findings::{Findings, Judged};
 pub use jobs::try_in_jobs;
 pub use judgement::{Judgement, asks_of_ends, judgement_of};
 pub use judging::{failing_step, judge, meets};
-pub use marking::{ask_of_marks, marks_asked};
+pub use marking::{ask_of_marks, ask_of_walks, marks_asked};
 pub use matched::{is_each_met, is_met};
 pub use orders::try_orders;
 pub use tally::Tally;

@@ -1,7 +1,7 @@
-//! Why an access is stale or unsteady, as text.
+//! Why an access is stale, unsteady, or not firm, as text.
 use crate::records::{RecordParts, event_line};
 use crate::stuck::place_of;
-use access_causes::{AccessCause, Fencing, Held, Origin, Reach};
+use access_causes::{AccessCause, Fencing, Former, Held, Origin, Reach, Walked};
 use board_core::{Actor, Entry, Event, HartSet};
 use diagnostics::Case;
 use guest_programs::is_guest;
@@ -76,7 +76,7 @@ fn line_of(case: &Case<'_>, record: &RecordParts<'_>, place: usize) -> Option<u6
     Some(line)
 }
 
-/// Why an access is stale or unsteady, with the texts of the steps that it names.
+/// Why an access is stale, unsteady, or not firm, with the texts of the steps that it names.
 #[derive(Drop)]
 pub struct ToldCause {
     cause: AccessCause,
@@ -165,7 +165,15 @@ impl ToldCause {
                 f,
                 ", which the tables give by satp {satp:#x}, which hart {hart} had from step {from} to {until}"
             ),
-            Origin::Had(until) => write!(f, ", which memory had up to step {until}"),
+            Origin::Had(until) => match held {
+                Held::Walked(
+                    Walked {
+                        former: Former::Satp(_),
+                        ..
+                    },
+                ) => write!(f, ", which hart {hart} had up to step {until}"),
+                _ => write!(f, ", which memory had up to step {until}"),
+            },
         }
     }
 
@@ -196,7 +204,7 @@ impl ToldCause {
     ) -> fmt::Result {
         match before {
             Some(place) => {
-                write!(f, "fenced at ")?;
+                write!(f, "fenced{} at ", kind_of(&self.cause.held))?;
                 self.write_step(f, place)?;
                 write!(f, ", before the change, and not since")?;
             }
@@ -220,8 +228,14 @@ impl ToldCause {
             ..
         } = &self.cause;
         match held {
-            Held::Entry(_) => write!(f, "no fence at hart {hart} covers {address:#x} before this"),
             Held::Word(_) => write!(f, "no FENCE.I at hart {hart} before this"),
+            Held::Entry(_) | Held::Walked(_) => {
+                let kind = kind_of(held);
+                write!(
+                    f,
+                    "no fence{kind} at hart {hart} covers {address:#x} before this"
+                )
+            }
         }
     }
 }
@@ -278,7 +292,20 @@ fn write_reach<W: fmt::Write>(f: &mut fmt::Formatter<W>, hart: u64, reach: Reach
     }
 }
 
-/// `0x80004000 rw-d`, or `the word 0x13 of 0x80004000`.
+/// Which kind of fence alone ends what an access used, or may use.
+fn kind_of(held: &Held) -> &'static str {
+    let Held::Walked(walked) = held else {
+        return "";
+    };
+    match (walked.is_whole, walked.is_global) {
+        (false, false) => "",
+        (true, false) => " without an address",
+        (false, true) => " without an ASID",
+        (true, true) => " without an address and an ASID",
+    }
+}
+
+/// `0x80004000 rw-d`, `the word 0x13 of 0x80004000`, `the table word 0x20000c01 of 0x80002000`, or `satp 0x8000500000080001`.
 fn write_held<W: fmt::Write>(f: &mut fmt::Formatter<W>, held: &Held) -> fmt::Result {
     match held {
         Held::Entry(entry) => {
@@ -291,6 +318,10 @@ fn write_held<W: fmt::Write>(f: &mut fmt::Formatter<W>, held: &Held) -> fmt::Res
             let pa = fetched.pa;
             write!(f, "the word {word:#x} of {pa:#x}")
         }
+        Held::Walked(walked) => match walked.former {
+            Former::Word { pa, word } => write!(f, "the table word {word:#x} of {pa:#x}"),
+            Former::Satp(satp) => write!(f, "satp {satp:#x}"),
+        },
     }
 }
 

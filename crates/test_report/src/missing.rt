@@ -197,7 +197,7 @@ fn why_other(mark: Option<Mark>) -> &'static str {
     match mark {
         Some(Mark::Stale | Mark::Missed) =>
             "; such a step uses no TLB entry, and takes no page fault",
-        Some(Mark::Unsteady) => {
+        Some(Mark::Unsteady | Mark::Unfirm | Mark::Unlenient) => {
             "; such a step uses no TLB entry, takes no page fault, and fetches no word"
         }
         None => "; such a step has another reply",

@@ -20,7 +20,7 @@ pub enum Unjudged {
     TooMany(u64),
     /// It asks of marks, and the record has more events than a board's history.
     NoMarks,
-    /// It asks what fence calls missed, which only records tell.
+    /// It asks what fence calls missed, or what isn't firm or lenient, which only records tell.
     Missed,
     /// It asks of marks, and a guest fetches: of its program only records tell marks.
     Fetches,
@@ -37,7 +37,12 @@ impl fmt::Display for Unjudged {
                 write!(f, "more than {most} states, none of those seen breaks it")
             }
             Unjudged::NoMarks => write!(f, "more than 1,000,000 events"),
-            Unjudged::Missed => write!(f, "only records tell what is missed: use test"),
+            Unjudged::Missed => {
+                write!(
+                    f,
+                    "only records tell what is missed, unfirm or unlenient: use test"
+                )
+            }
             Unjudged::Fetches => {
                 write!(
                     f,

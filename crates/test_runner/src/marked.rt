@@ -10,7 +10,8 @@ use outcome_statistics::{failing_step, is_met, meets};
 use std::alloc::{AllocError, Global};
 use test_report::{Unjudged, Verdict};
 
-/// The marks of a record's events, if they are asked for, and the record isn't longer than a history can be.
+/// The marks of a record's events, if they are asked for, and the record isn't longer than a history can be. With `walks` they say which
+/// accesses aren't firm or lenient.
 ///
 /// # Errors
 ///
@@ -18,6 +19,7 @@ use test_report::{Unjudged, Verdict};
 pub(crate) fn marks_if(
     alloc: Global,
     are_asked: bool,
+    walks: bool,
     config: &Config,
     events: &[Event],
 ) -> Result<Option<Vec<Marks>>, AllocError>
@@ -27,7 +29,7 @@ pub(crate) fn marks_if(
         return Ok(None);
     }
     match with_room(config, events.len() as u64) {
-        Some(config) => marks_of(alloc, &config, events),
+        Some(config) => marks_of(alloc, &config, events, walks),
         None => Ok(None),
     }
 }

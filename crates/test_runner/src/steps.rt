@@ -3,13 +3,14 @@ ghost use Rattle.std.specs.Prelude.{◌≡◌, IfSome, length};
 
 use crate::course::{Course, Odd};
 use crate::marked::{failing_place, is_met_by, judged, marks_if};
+use access_causes::{Asked, Asks};
 use access_marks::Marks;
 use board_core::Event;
 use conditions::{Condition, Rule};
 use diagnostics::Walk;
 use guest_programs::new_board;
 use guest_script::{Body, Lines};
-use outcome_statistics::ask_of_marks;
+use outcome_statistics::{ask_of_marks, ask_of_walks};
 use std::alloc::AllocError;
 use std::rt::Files;
 use std::str;
@@ -45,7 +46,8 @@ fn judge_record<R: AllocGlobal + Files>(
 ) -> Result<(), AllocError> {
     let alloc = trial.rt.alloc();
     let are_asked = ask_of_marks(trial.case.conditions) || course.can_have_missed(events);
-    let marks = marks_if(alloc, are_asked, course.config(), events)?;
+    let walks = ask_of_walks(trial.case.conditions);
+    let marks = marks_if(alloc, are_asked, walks, course.config(), events)?;
     note_lines(trial, course, events, &marks, file)?;
     judge_all(trial, course, events, &marks, file)
 }
@@ -163,15 +165,19 @@ fn stale_causes<R: AllocGlobal>(
     course: &Course,
     events: &[Event],
 ) -> Result<Vec<ToldCause>, AllocError> {
-    let mut places = Vec::new(trial.rt.alloc());
+    let mut asked = Vec::new(trial.rt.alloc());
     for odd in course.odd.iter() {
         if let Odd::Stale { place, .. } = odd
-            && places.len() < MOST_CAUSES
+            && asked.len() < MOST_CAUSES
         {
-            places.push(*place)?;
+            let place = *place;
+            asked.push(Asked {
+                place,
+                asks: Asks::Held,
+            })?;
         }
     }
-    told_causes(trial, course.record(events), &places)
+    told_causes(trial, course.record(events), &asked)
 }
 
 /// The point of a schedule's or a trace's lines.

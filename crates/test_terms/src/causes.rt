@@ -2,10 +2,10 @@
 ghost use Rattle.std.specs.Prelude.{◌≡◌, length};
 
 use crate::trial::Trial;
-use access_causes::causes_of;
+use access_causes::{Asked, Asks, causes_of};
 use access_marks::Marks;
 use board_core::Event;
-use conditions::{Pattern, Rule};
+use conditions::{Mark, Pattern, Rule};
 use marked_conditions::{failing_step_with, first_with, mark_of};
 use std::alloc::{AllocError, Global};
 use test_report::{Detail, RecordParts, ToldCause};
@@ -24,15 +24,15 @@ pub fn put_causes<R: AllocGlobal>(
 ) -> Result<(), AllocError>
     requires { length record.events.now ≡ length marks.now }
 {
-    let places = marked_places(trial.rt.alloc(), rule, record.events, marks)?;
-    let causes = told_causes(trial, record, &places)?;
+    let asked = marked_accesses(trial.rt.alloc(), rule, record.events, marks)?;
+    let causes = told_causes(trial, record, &asked)?;
     if !causes.is_empty() {
         details.push(Detail::Causes(causes))?;
     }
     Ok(())
 }
 
-/// Why the accesses in these places of a record are stale or unsteady. The places ascend.
+/// Why these accesses of a record are stale, unsteady, or not firm. Their places ascend.
 ///
 /// # Errors
 ///
@@ -40,42 +40,53 @@ pub fn put_causes<R: AllocGlobal>(
 pub fn told_causes<R: AllocGlobal>(
     trial: &Trial<'_, R>,
     record: RecordParts<'_>,
-    places: &[usize],
+    asked: &[Asked],
 ) -> Result<Vec<ToldCause>, AllocError> {
     let alloc = trial.rt.alloc();
     let mut told = Vec::new(alloc);
-    if places.is_empty() {
+    if asked.is_empty() {
         return Ok(told);
     }
-    for cause in causes_of(alloc, record.board.config(), record.events, places)? {
+    for cause in causes_of(alloc, record.board.config(), record.events, asked)? {
         told.push(ToldCause::of(alloc, &trial.case, &record, cause)?)?;
     }
     Ok(told)
 }
 
-/// The places of the accesses whose marks make a record fail a condition, ascending.
-fn marked_places(
+/// The accesses whose marks make a record fail a condition. Their places ascend.
+fn marked_accesses(
     alloc: Global,
     rule: &Rule,
     events: &[Event],
     marks: &[Marks],
-) -> Result<Vec<usize>, AllocError>
+) -> Result<Vec<Asked>, AllocError>
     requires { length events.now ≡ length marks.now }
 {
-    let mut places = Vec::new(alloc);
+    let mut asked = Vec::new(alloc);
     if let Rule::NeverAfter(_, q) = rule
-        && mark_of(q).is_some()
+        && let Some(mark) = mark_of(q)
         && let Some(place) = first_with(q, events, marks, 0)
     {
-        places.push(place)?;
+        asked.push(asked_of(place, mark, marks))?;
     }
     if let Some(p) = failing_pattern(rule)
-        && mark_of(p).is_some()
+        && let Some(mark) = mark_of(p)
         && let Some(place) = failing_step_with(rule, events, marks)
     {
-        places.push(place)?;
+        asked.push(asked_of(place, mark, marks))?;
     }
-    Ok(places)
+    Ok(asked)
+}
+
+/// What is asked of the access in a place that has this mark, by all of its marks.
+fn asked_of(place: usize, mark: Mark, marks: &[Marks]) -> Asked {
+    let is_unsteady = marks.get(place).is_some_and(|marks| marks.unsteady);
+    let asks = match mark {
+        Mark::Unfirm if !is_unsteady => Asks::Firm,
+        Mark::Unlenient if !is_unsteady => Asks::Lenient,
+        _ => Asks::Held,
+    };
+    Asked { place, asks }
 }
 
 /// The pattern whose step makes a record fail a condition.

@@ -4,9 +4,8 @@ ghost use Rattle.conditions.specs.Endings.{ending};
 ghost use Rattle.guest_script.specs.Grammar.{content};
 ghost use Rattle.guest_programs.specs.Programs.{IsProgram};
 ghost use Rattle.access_marks.specs.declared.marks.Marks.{Marks as Told};
-ghost use Rattle.access_marks.specs.Marks.{AreMarked};
 ghost use Rattle.board_core.specs.Opening.{opening_at};
-ghost use Rattle.outcome_statistics.specs.Findings.{AreFound, AskOfMarks};
+ghost use Rattle.outcome_statistics.specs.Findings.{AreFound, AreMarkedFor, AskOfMarks};
 ghost use Rattle.outcome_statistics.specs.Records.{Tried as Record};
 ghost use Rattle.tried_orders.specs.declared.points.Source.TheVariants.{Threads as FromThreads};
 ghost use Rattle.tried_orders.specs.Verdicts.{AddsRuns, AreRunsOf, IsCutByTime};
@@ -111,7 +110,7 @@ fn judge_run<R: AllocGlobal + Files>(
     ensures source { tried.new.source ≡ tried.old.source }
     ensures found { OnOk result ((marks : List Told)
         × (AskOfMarks trial.now.case.conditions.now
-        → AreMarked (opening_at ended.now.board.opening.config) ended.now.board.past (reverse marks))
+        → AreMarkedFor trial.now.case.conditions.now ended.now.board.opening.config ended.now.board.past marks)
         × ((records : List Record) (x : Record) → x.number ≡ number → x.events ≡ reverse ended.now.board.past
         → x.marks ≡ marks → x.end ≡ ending ended.now.end
         → AreFound ended.now.board.opening.config.harts trial.now.case.conditions.now records tried.old.found

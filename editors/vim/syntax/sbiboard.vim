@@ -5,8 +5,8 @@ endif
 
 let s:operations = 'ecall load fetch store store1 store2 store4 amoswap amoadd amoand amoor amoxor amomin amomax amominu amomaxu amoswap.w amoadd.w amoand.w amoor.w amoxor.w amomin.w amomax.w amominu.w amomaxu.w amocas satp sfence fencei sie sstatus sip clearssip wfi poll serve advance tick'
 let s:replies = 'ret entry waiting gone value fault served moved done refused'
-let s:rules = 'never some each before can end steady'
-let s:marks = 'stale missed unsteady'
+let s:rules = 'never some each before can end steady firm lenient'
+let s:marks = 'stale missed unsteady unfirm unlenient'
 let s:ends = 'off history-full quiet stuck'
 
 " Any of these words, whole. A comment may begin behind one, and in a condition a comma.

@@ -19,4 +19,10 @@ pub returns-in-Can : goal.returns-in-Can
 returns-in-Can c = rw c.in-Can.is c.can_end.ensures
 
 pub returns-in-Steady : goal.returns-in-Steady
-returns-in-Steady c = rw c.in-Steady.is c.steady.ensures
+returns-in-Steady c = rw c.in-Steady.is c.without.ensures
+
+pub returns-in-Firm : goal.returns-in-Firm
+returns-in-Firm c = rw c.in-Firm.is c.without-in-Firm.ensures
+
+pub returns-in-Lenient : goal.returns-in-Lenient
+returns-in-Lenient c = rw c.in-Lenient.is c.without-in-Lenient.ensures

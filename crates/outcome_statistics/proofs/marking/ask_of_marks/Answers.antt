@@ -1,11 +1,12 @@
 use Rattle.std.proofs.Common.{◌<◌, length, arith}
 use Rattle.std.proofs.lemmas.Option.{slice_get_within}
+use Rattle.marked_conditions.specs.Marked.{asks_of_marks}
 use Rattle.outcome_statistics.proofs.Asking.{none-asks-next}
 use Rattle.outcome_statistics.proofs.marking.ask_of_marks.Goals as goal
 
 pub loop-condition-preserved : goal.loop-condition-preserved
 loop-condition-preserved c =
-    none-asks-next c.args.conditions.now c.loop-condition.condition-index c.condition-item.result c.asks_of_marks.result c.condition-item.is
+    none-asks-next asks_of_marks c.args.conditions.now c.loop-condition.condition-index c.condition-item.result c.asks_of_marks.result c.condition-item.is
     c.asks_of_marks.ensures c.if-asks_of_marks.false c.loop-condition.invariant
 
 pub returns : goal.returns

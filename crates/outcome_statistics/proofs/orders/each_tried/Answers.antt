@@ -1,11 +1,10 @@
-use Rattle.std.proofs.Common.{◌≡◌, ℕ, List, ◌∙◌, ap, length, refl, reverse, subst, sym, arith}
+use Rattle.std.proofs.Common.{◌≡◌, ℕ, List, ◌∙◌, ap, length, refl, subst, sym, arith}
 use Rattle.access_marks.specs.declared.marks.Marks.{Marks}
-use Rattle.access_marks.specs.Marks.{AreMarked}
 use Rattle.board_core.specs.Opening.{opening_at}
 use Rattle.board_terms.specs.declared.config.Config.{Config}
 use Rattle.seeded_orders.specs.Orders.{IsTried}
 use Rattle.guest_programs.specs.Steps.{task_in, Task}
-use Rattle.outcome_statistics.specs.Findings.{AreFoundOf, AskOfMarks}
+use Rattle.outcome_statistics.specs.Findings.{AreFoundOf, AreMarkedFor, AskOfMarks}
 use Rattle.outcome_statistics.proofs.Finding.{found-next, found-none}
 use Rattle.outcome_statistics.proofs.orders.each_tried.Goals as goal
 
@@ -31,9 +30,9 @@ loop-order-preserved c =
     let here = subst (λ (k : Config). P k (task_in c.args.program.now)) c.loop-order.invariant.0 c.in_ok-end.ensures.tried in
     let numbers = c.try_order_on.ensures.config ∙ c.loop-order.invariant.0 in
     let marks : List Marks = c.deref.result.now in
-    let marked : AskOfMarks c.args.batch.now.conditions.now → AreMarked (opening_at k) c.try_order_on.new.board.past (reverse marks) = λ ask.
-    subst (λ (k : Config). AreMarked (opening_at k) c.try_order_on.new.board.past (reverse marks)) numbers
-    (subst (λ (all : List Marks). AreMarked (opening_at c.try_order_on.new.board.opening.config) c.try_order_on.new.board.past (reverse all)) (sym c.deref.ensures.value)
+    let marked : AskOfMarks c.args.batch.now.conditions.now → AreMarkedFor c.args.batch.now.conditions.now k c.try_order_on.new.board.past marks = λ ask.
+    subst (λ (k : Config). AreMarkedFor c.args.batch.now.conditions.now k c.try_order_on.new.board.past marks) numbers
+    (subst (λ (all : List Marks). AreMarkedFor c.args.batch.now.conditions.now c.try_order_on.new.board.opening.config c.try_order_on.new.board.past all) (sym c.deref.ensures.value)
     (c.in_ok-marks.ensures.marked ask)) in (
       c.try_order_on.ensures.config ∙ c.loop-order.invariant.0,
       c.see.ensures.many,

@@ -2,7 +2,6 @@ use Rattle.std.proofs.Common.{◌≡◌, ◌∷◌, ◌+◌, ℕ, List, [], leng
 use Rattle.std.proofs.lemmas.List.{reverse-reverse}
 use Rattle.board_core.specs.Course.{Course}
 use Rattle.access_marks.specs.declared.marks.Marks.{Marks}
-use Rattle.access_marks.specs.Marks.{AreMarked}
 use Rattle.board_core.specs.History.{Event}
 use Rattle.board_core.specs.Opening.{opening_at}
 use Rattle.board_terms.specs.declared.config.Config.{Config}
@@ -11,7 +10,7 @@ use Rattle.conditions.specs.Endings.{ending}
 use Rattle.guest_script.specs.Grammar.{Content, content}
 use Rattle.guest_programs.specs.declared.ends.End.{End}
 use Rattle.guest_programs.specs.Steps.{task_of}
-use Rattle.outcome_statistics.specs.Findings.{AreFound, HasMarks}
+use Rattle.outcome_statistics.specs.Findings.{AreFound, AreMarkedFor, HasMarks}
 use Rattle.outcome_statistics.specs.Records.{Tried}
 use Rattle.seeded_orders.specs.Orders.{IsTried}
 use Rattle.tried_orders.proofs.orders.try_one.Goals as goal
@@ -52,9 +51,9 @@ returns-clause-found g c =
     let whole : IsTried numbers (task_of body) seed c.args.order (reverse x.events) end =
     subst (λ (events : List Event). IsTried numbers (task_of body) seed c.args.order events end) (sym (reverse-reverse past)) tried in
     let marked : HasMarks numbers conditions x = λ ask.
-    subst (λ (k : Config). AreMarked (opening_at k) (reverse x.events) (reverse x.marks)) same
-    (subst (λ (events : List Event). AreMarked (opening_at board.opening.config) events (reverse x.marks)) (sym (reverse-reverse past))
-    (subst (λ (all : List Marks). AreMarked (opening_at board.opening.config) past (reverse all)) (sym c.deref.ensures.value) (c.in_ok-marks.ensures.marked ask))) in
+    subst (λ (k : Config). AreMarkedFor conditions k (reverse x.events) x.marks) same
+    (subst (λ (events : List Event). AreMarkedFor conditions board.opening.config events x.marks) (sym (reverse-reverse past))
+    (subst (λ (all : List Marks). AreMarkedFor conditions board.opening.config past all) (sym c.deref.ensures.value) (c.in_ok-marks.ensures.marked ask))) in
     record {
       tried = x ∷ [];
       are = record { to = c.args.order + 1; are = (refl, (end, refl, whole, marked), refl); most = omega arith; whole = (λ _. refl) };

@@ -1,7 +1,6 @@
-use Rattle.std.proofs.Common.{List, length, reverse, ap, subst, sym, ◌∙◌}
+use Rattle.std.proofs.Common.{List, length, ap, subst, sym, ◌∙◌}
 use Rattle.access_marks.specs.declared.marks.Marks.{Marks}
-use Rattle.access_marks.specs.Marks.{AreMarked}
-use Rattle.board_core.specs.Opening.{opening_at}
+use Rattle.outcome_statistics.specs.Findings.{AreMarkedFor}
 use Rattle.tried_orders.proofs.Trying.{on-ok}
 use Rattle.tried_orders.proofs.threaded.judge_run.Goals as goal
 
@@ -18,7 +17,7 @@ returns-clause-found g c =
     on-ok c.keep_failing.result _ (
       c.deref.result.now,
       (λ ask.
-          subst (λ (all : List Marks). AreMarked (opening_at board.opening.config) board.past (reverse all)) (sym c.deref.ensures.value)
+          subst (λ (all : List Marks). AreMarkedFor c.args.trial.now.case.conditions.now board.opening.config board.past all) (sym c.deref.ensures.value)
           (c.in_ok-marks.ensures.marked ask)),
       (λ records x number events marks end found. c.in_ok-see.ensures.found records x number events marks end found),
     )

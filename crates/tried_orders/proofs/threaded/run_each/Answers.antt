@@ -11,8 +11,7 @@ use Rattle.guest_programs.specs.declared.ends.End.{End}
 use Rattle.guest_programs.specs.Ends.{IsEnd}
 use Rattle.guest_programs.specs.Programs.{blocks_of, ticks_of}
 use Rattle.hart_threads.specs.Shares.{IsRun}
-use Rattle.access_marks.specs.Marks.{AreMarked}
-use Rattle.outcome_statistics.specs.Findings.{AreFound, HasMarks}
+use Rattle.outcome_statistics.specs.Findings.{AreFound, AreMarkedFor, HasMarks}
 use Rattle.outcome_statistics.specs.Records.{Tried}
 use Rattle.tried_orders.specs.Verdicts.{IsRunRecord}
 use Rattle.tried_orders.proofs.threaded.run_each.Goals as goal
@@ -47,8 +46,8 @@ loop-number-preserved g c =
     subst (λ (o : Opening). IsRun (λ actor ordinal answer. answer ≡ true) o (blocks_of body) (ticks_of body) (reverse x.events) end) opened
     (subst (λ (events : List Event). IsRun (λ actor ordinal answer. answer ≡ true) board.opening (blocks_of body) (ticks_of body) events end) whole c.in_ok-ended.ensures.threads) in
     let marked : HasMarks numbers conditions x = λ ask.
-    subst (λ (o : Opening). AreMarked (opening_at o.config) (reverse x.events) (reverse x.marks)) opened
-    (subst (λ (events : List Event). AreMarked (opening_at board.opening.config) events (reverse x.marks)) whole (judged.1 ask)) in
+    subst (λ (o : Opening). AreMarkedFor conditions o.config (reverse x.events) x.marks) opened
+    (subst (λ (events : List Event). AreMarkedFor conditions board.opening.config events x.marks) whole (judged.1 ask)) in
     let one : IsRunRecord numbers body conditions x = record { end = end; ended = refl; is = ended; run = run; marked = marked } in
     let harts : board.opening.config.harts ≡ numbers.harts = ap (λ (o : Opening). o.config.harts) opened in (
       before.0,

@@ -15,3 +15,9 @@ returns-clause-marked c = λ event uses.
       missed = c.in_ok-missed.ensures.missed event uses;
       steady = not-false c.is_steady-unsteady.result (IsSteadyReach f.course.opening f.course.past c.args.at.hart (record { va = c.args.at.address; access = c.args.access })) c.is_steady-unsteady.ensures;
     }
+
+pub returns-clause-walks : goal.returns-clause-walks
+returns-clause-walks c = λ asked. record {
+  firm = c.in_ok-unfirm.ensures.firm asked;
+  lenient = c.in_ok-unfirm.ensures.lenient asked;
+}

@@ -27,7 +27,7 @@ returns-then-not-is_stale-clause-missed c = λ event uses.
     )
 
 pub invariant_of-self : goal.invariant_of-self
-invariant_of-self c = (c.self.invariant.0, c.self.invariant.1, c.has_missed.ensures.kept)
+invariant_of-self c = (c.self.invariant.0, c.self.invariant.1, c.has_missed.ensures.kept, c.self.invariant.3)
 
 pub returns-clause-missed : goal.returns-clause-missed
 returns-clause-missed c =

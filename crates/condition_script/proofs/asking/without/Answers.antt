@@ -1,6 +1,6 @@
 use Rattle.std.proofs.lemmas.Result.{err_from_is_err_and}
 use Rattle.condition_script.proofs.Asked.{either}
-use Rattle.condition_script.proofs.asking.steady.Goals as goal
+use Rattle.condition_script.proofs.asking.without.Goals as goal
 
 pub returns-in_err-step : goal.returns-in_err-step
 returns-in_err-step c =

@@ -1,0 +1,3 @@
+-- Private: what no clause of a public call names.
+pub mod Sights
+pub mod Fits

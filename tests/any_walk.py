@@ -1,0 +1,176 @@
+"""What any TLB may hold that also keeps pointers and invalid entries, and whose walks read words of different times, in plain Python, by
+docs/FORMATS.md ("What any TLB may hold") alone: which accesses of a program are unfirm, and which unlenient. Which former satps and words a
+hart may still see is kept here as sets, for each kind of walk; the other marks come from any_tlb.py."""
+from collections import namedtuple
+
+import board_model
+from board_model import access_of, allows, is_valid
+
+from . import any_tlb
+from .any_tlb import Marker, fences_of, given, result_of
+
+UNFIRM, UNLENIENT = "unfirm", "unlenient"
+
+# What a hart may still see. Of each kind of walk (whether it meets G; else its ASID): the satps by which it may begin; by physical
+# addresses the words that are pointers to it; and, for each virtual address, those at which it may end, and those at which it may though
+# a pointer has stood there since, above the lowest level.
+Seen = namedtuple("Seen", "satps pointers ends turned")
+
+
+def is_of(fence, met, asid):
+    return fence[1] is None or not met and fence[1] == asid
+
+
+def orders_pointers(fences, met, asid):
+    return any(it is not None and it[0] is None and is_of(it, met, asid) for it in fences)
+
+
+def orders_ends(fences, va, met, asid):
+    page = va & ~0xFFF
+    return any(it is not None and (it[0] is None or max(page, it[0][0]) < min(page + 4096, it[0][1])) and is_of(it, met, asid) for it in fences)
+
+
+def is_pointer(word):
+    return word & 0xDF == 1 and not word >> 54
+
+
+def asid_of(satp):
+    return satp >> 44 & 0xFFFF
+
+
+class WalkMarker(Marker):
+    """The marks of steps by these operations, with those of walks."""
+
+    def __init__(self, ops, board):
+        super().__init__(ops, board)
+        self.kinds = [(True, 0)] + [(False, it) for it in sorted({asid_of(satp) & board.asids for satp in self.satps})]
+
+    # ---- what a step leaves
+
+    def after(self, watch, before, board, actor, op, answer):
+        new = super().after(watch, before, board, actor, op, answer)
+        was_reset = op[:2] == ("ecall", board_model.SRST) and answer == board_model.GONE
+        applied = fences_of(before, actor, op, answer)
+        old = (None,) * self.harts if was_reset else getattr(watch, "seen", (None,) * self.harts)
+        new.seen = tuple(self.seen_by(old[h], before, board, h, [fence for at, fence in applied if at == h]) for h in range(self.harts))
+        new.key = lambda key=new.key: (key(), tuple(tuple(frozenset(part.items()) for part in seen) for seen in new.seen))
+        return new
+
+    def seen_by(self, old, before, board, h, fences):
+        """What a hart may see behind a step that applies these fences there; `old`: before it, or None at the beginning and behind a reset."""
+        places = set(before.ram) | set(board.ram)
+        now = {pa: board.ram.get(pa, 0) for pa in places}
+        was = lambda part, key, pa: part.get((key, pa), frozenset([before.ram.get(pa, 0)]))
+        satps, pointers, ends, turned = {}, {}, {}, {}
+        for kind in self.kinds:
+            left = frozenset() if old is None else frozenset(it for it in old.satps[kind] if not orders_pointers(fences, kind[0], asid_of(it)))
+            satps[kind] = left | {board.harts[h].satp}
+            stops = old is None or orders_pointers(fences, *kind)
+            for pa in places:
+                pointers[kind, pa] = frozenset([now[pa]]) | (frozenset() if stops else was(old.pointers, kind, pa))
+            for va in self.places:
+                hides = old is None or orders_ends(fences, va, *kind)
+                for pa in places:
+                    ends[(kind, va), pa] = frozenset([now[pa]]) | (frozenset() if hides else was(old.ends, (kind, va), pa))
+                    by_now = was(old.ends, (kind, va), pa) if old is not None and is_pointer(now[pa]) else frozenset()
+                    turned[(kind, va), pa] = frozenset() if stops else old.turned.get(((kind, va), pa), frozenset()) | by_now
+        return Seen(satps, pointers, ends, turned)
+
+    # ---- what walks give
+
+    def results(self, seen, board, h, kind, va):
+        """What walks may give an access: each result with its kind of walk."""
+        for walks in self.kinds:
+            met, asid = walks
+            for satp in seen.satps[walks]:
+                if not satp >> 60 or not is_valid(va, board_model.WIDTHS[satp >> 60]) or not met and asid_of(satp) != asid_of(board.harts[h].satp):
+                    continue
+                if not met and asid != asid_of(satp):
+                    continue
+                levels = (board_model.WIDTHS[satp >> 60] - 12) // 9
+                yield from self.walk(seen, board, walks, kind, va, (satp & (1 << 44) - 1) << 12, False, levels - 1)
+
+    def walk(self, seen, board, walks, kind, va, table, is_global, level):
+        at = table + 8 * (va >> 12 + 9 * level & 0x1FF)
+        if not board.in_ram(at):
+            if walks[0] == is_global:
+                yield "fault", board_model.ACCESS_FAULT[kind]
+            return
+        alone = frozenset([board.ram.get(at, 0)])
+        ends = seen.ends.get(((walks, va), at), alone)
+        if level:
+            ends = ends | seen.turned.get(((walks, va), at), frozenset())
+            for word in seen.pointers.get((walks, at), alone):
+                if is_pointer(word):
+                    yield from self.walk(seen, board, walks, kind, va, (word >> 10 & (1 << 44) - 1) << 12, is_global or bool(word & 0x20), level - 1)
+        for word in ends:
+            if not (level and is_pointer(word)) and walks[0] == (is_global or bool(word & 0x20)):
+                yield self.end(word, kind, va, level)
+
+    def end(self, word, kind, va, level):
+        size, pa = 4096 << 9 * level, (word >> 10 & (1 << 44) - 1) << 12
+        rights = [bool(word & bit) for bit in (2, 4, 8, 0x80)]
+        r, w, x, _ = rights
+        is_leaf = word & 1 and not word >> 54 and (r or x) and (r or not w) and not word & 0x10 and word & 0x40 and not pa % size
+        entry = (va & board_model.ALL - (size - 1), level, 0, False, pa, *rights)
+        return result_of(entry, kind, va) if is_leaf and allows(entry, kind) else ("fault", board_model.PAGE_FAULT[kind])
+
+    # ---- marks of a step
+
+    def marks(self, watch, before, board, h, op):
+        found, reach = set(super().marks(watch, before, board, h, op)), access_of(op) if h is not None else None
+        if reach is None:
+            return frozenset(found)
+        kind, va = reach
+        satp = before.harts[h].satp
+        is_odd = op[0] in ("load", "store", "fetch") and op[1] % 8 or op[0] in board_model.CHANGES and op[1] % board_model.CHANGES[op[0]][0]
+        if kind == "fetch" and not is_odd and self.is_other_word(watch, before, h, va, satp):
+            found |= {UNFIRM, UNLENIENT}
+        if not is_odd and satp and is_valid(va, board_model.WIDTHS[satp >> 60]):
+            walked = given(before, satp, kind, va)
+            now, matching = result_of(walked, kind, va), [it for it in watch.possible[h] if board_model.is_in(va, it) and (it[3] or it[2] == asid_of(satp))]
+            may = set(self.results(watch.seen[h], before, h, kind, va)) | {result_of(it, kind, va) for it in matching}
+            if may - {now}:
+                found.add(UNFIRM)
+            if may - {now} - ({("fault", board_model.PAGE_FAULT[kind])} if isinstance(walked, tuple) else set()):
+                found.add(UNLENIENT)
+        return frozenset(found)
+
+
+def marker_of(program):
+    return WalkMarker([op for block in program.blocks.values() for _, op in block], program.board)
+
+
+def marks_of_all_orders(text):
+    return any_tlb.marks_of_all_orders(text, marker_of=marker_of)
+
+
+def marks_of_record(text, record):
+    return any_tlb.marks_of_record(text, record, marker_of=marker_of)
+
+
+def marks_of_schedule(text):
+    return any_tlb.marks_of_schedule(text, make=WalkMarker)
+
+
+def change_of(text, place, mark):
+    """The last step of a schedule such that the access in a place has the mark, even if nothing is known of what was before that step;
+    and whether the access is unsteady, too. Places count accepted steps."""
+    first, *rest = filter(None, map(board_model.words_of, text.split("\n")))
+    board, steps, boards = board_model.board_of(first), [*map(board_model.step_of, rest)], []
+    marker, taken = WalkMarker([op for _, op in steps], board), []
+    for actor, op in steps:
+        before, board = board, board.copy()
+        answer = board.step(actor, op)
+        if answer[0] != "refused":
+            boards.append(before)
+            taken.append((actor, op, answer))
+    boards.append(board)
+
+    def marks_from(first):
+        watch = marker.first(boards[first])
+        for at in range(first, place):
+            watch = marker.after(watch, boards[at], boards[at + 1], *taken[at])
+        return marker.marks(watch, boards[place], boards[place + 1], *taken[place][:2])
+
+    return next(at for at in range(place - 1, -1, -1) if mark in marks_from(at)), any_tlb.UNSTEADY in marks_from(0)
