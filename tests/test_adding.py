@@ -18,7 +18,6 @@ FILES = {
     "crates/low/proofs/WorkedMaps.antt": "loads by Sv48\n",
     "crates/high/src/page.rt": "enum Level { Kilo, Giga }\n",
     "crates/high/specs/Paging.antt": "fewest : 1\n",
-    "crates/rows/src/debugging.rt": "[Sv39, Sv48]\n",
     "crates/printed_lines/proofs/HexText.antt": "39 or 48\n",
     "tools/model.py": "WIDTHS = {8: 39, 9: 48}\n",
     "tests/test_modes.py": "from model import sv39, sv48\n" + "\n" * 30 + "load('sv48')\n",
@@ -39,7 +38,7 @@ FAULTS = [
     ("crates/low/proofs/WorkedMaps.antt", "Sv48", "Sv39 and Sv48", "forgotten: crates/low/proofs/WorkedMaps.antt"),
     ("tests/test_modes.py", "'sv48'", "'sv39', 'sv48'", "forgotten: tests/test_modes.py"),
     ("README.md", "A board", "A board with Sv39 and Sv48", "forgotten: README.md"),
-    ("crates/rows/src/debugging.rt", ", Sv48", "", "wrong: crates/rows/src/debugging.rt doesn't name it, and is listed as a use"),
+    ("crates/printed_lines/proofs/HexText.antt", " or 48", "", "wrong: crates/printed_lines/proofs/HexText.antt doesn't name it, and is listed as a use"),
 ]
 
 # A page on extensions, and a file of bench/ that lists them by their ids, as Rust parts these.

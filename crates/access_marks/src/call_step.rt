@@ -12,7 +12,7 @@ use sv39::Spaces;
 use tlb_model::{Fence, Flush, is_wrong_range};
 
 /// What an event is for remote fence calls (SBI 8).
-#[derive(Clone, Copy, Debug, PartialEq, Eq)]
+#[derive(Clone, Copy, PartialEq, Eq)]
 pub(crate) enum CallStep {
     /// The hart asked for this fence of translations, by a call that waits.
     Asked(u64, Fence),

@@ -7,7 +7,7 @@ ghost use Rattle.access_marks.specs.Inside.Changes.{IsChange, SaysWritten, place
 use board_core::{Entry, Event, Op, Reply, View};
 
 /// A word that an event writes: where it stands, and the memory's word there before the event, if the RAM has one.
-#[derive(Clone, Copy, Debug, PartialEq, Eq)]
+#[derive(Clone, Copy, PartialEq, Eq)]
 pub(crate) struct Written {
     pub(crate) at: u128,
     pub(crate) word: Option<u64>,

@@ -3,7 +3,7 @@ ghost use Rattle.std.specs.Prelude.{◌≡◌};
 ghost use Rattle.access_marks.specs.Marks.{unmarked};
 
 /// What a record says of an access beside its reply (Privileged 4.2.1, 4.3.2; Zifencei).
-#[derive(Clone, Copy, Debug, PartialEq, Eq)]
+#[derive(Clone, Copy, PartialEq, Eq)]
 pub struct Marks {
     /// The access is stale: the entry that it used gave it another physical address, or another fault, than the page tables.
     pub stale: bool,

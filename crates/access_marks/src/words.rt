@@ -9,7 +9,7 @@ use tlb_model::Flush;
 use tlb_watch::{CacheEffect, HartAddress};
 
 /// What parts instruction caches from the memory, or brings them together.
-#[derive(Clone, Copy, Debug, PartialEq, Eq)]
+#[derive(Clone, Copy, PartialEq, Eq)]
 pub(crate) enum WordNote {
     /// The memory's word at this physical address changed.
     Changed(u128),

@@ -6,14 +6,14 @@ use std::alloc::{AllocError, Global};
 use test_report::Given;
 
 /// A load, a fetch or an AMO of a program: its hart, and where it stands.
-#[derive(Clone, Copy, Debug, PartialEq, Eq, Hash)]
+#[derive(Clone, Copy, PartialEq, Eq, Hash)]
 pub(crate) struct Load {
     pub(crate) hart: u64,
     pub(crate) spot: Spot,
 }
 
 /// What one load gave; the load is a place in the list of loads.
-#[derive(Clone, Copy, Debug, PartialEq, Eq, Hash)]
+#[derive(Clone, Copy, PartialEq, Eq, Hash)]
 pub(crate) struct Reading {
     pub(crate) load: usize,
     pub(crate) given: Given,

@@ -1,7 +1,7 @@
 //! What can be wrong with a statement.
 
 /// What is wrong with a statement.
-#[derive(Clone, Copy, Debug, PartialEq, Eq)]
+#[derive(Clone, Copy, PartialEq, Eq)]
 pub enum Wrong {
     /// A value is missing: a number, a symbol, or an expression in parentheses.
     NoValue,
@@ -48,7 +48,7 @@ pub enum Wrong {
 }
 
 /// What is wrong with a statement, and its place.
-#[derive(Clone, Copy, Debug, PartialEq, Eq)]
+#[derive(Clone, Copy, PartialEq, Eq)]
 pub struct Fault {
     /// What is wrong.
     pub wrong: Wrong,

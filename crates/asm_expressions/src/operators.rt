@@ -8,7 +8,7 @@ use asm_tokens::{Mark, Placed, Token};
 use rv64_alu::AluOp;
 
 /// How tightly operators bind (GNU as, Infix Operators).
-#[derive(Clone, Copy, Debug, PartialEq, Eq)]
+#[derive(Clone, Copy, PartialEq, Eq)]
 pub(crate) enum Level {
     /// `+` and `-`.
     Sums,
@@ -21,7 +21,7 @@ pub(crate) enum Level {
 }
 
 /// An operator between two values.
-#[derive(Clone, Copy, Debug, PartialEq, Eq)]
+#[derive(Clone, Copy, PartialEq, Eq)]
 pub(crate) enum Operator {
     /// `+`
     Plus,
@@ -46,7 +46,7 @@ pub(crate) enum Operator {
 }
 
 /// An operator between two values, and its place.
-#[derive(Clone, Copy, Debug)]
+#[derive(Clone, Copy)]
 pub(crate) struct Joint<'t, 'a> {
     /// The operator.
     pub operator: Operator,

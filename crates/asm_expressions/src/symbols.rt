@@ -5,7 +5,7 @@ ghost use Rattle.asm_expressions.specs.Symbols.{context_of, direction_of, first_
 use asm_tokens::is_local_label;
 
 /// A symbol: a label, a local label, or a name with a value (GNU as, Labels, Local Labels, .set).
-#[derive(Clone, Copy, Debug)]
+#[derive(Clone, Copy)]
 pub struct Symbol<'a> {
     /// Its name; of a local label its digits.
     pub name: &'a [u8],
@@ -16,7 +16,7 @@ pub struct Symbol<'a> {
 }
 
 /// Where an expression stands, and what is known there.
-#[derive(Clone, Copy, Debug)]
+#[derive(Clone, Copy)]
 pub struct Scope<'s, 'a> {
     /// The symbols, in the order of their statements.
     pub symbols: &'s [Symbol<'a>],
@@ -29,7 +29,7 @@ pub struct Scope<'s, 'a> {
 }
 
 /// Where a local label is looked for.
-#[derive(Clone, Copy, Debug, PartialEq, Eq)]
+#[derive(Clone, Copy, PartialEq, Eq)]
 enum Direction {
     /// `1b`: it is the last one above.
     Backward,

@@ -11,7 +11,7 @@ use crate::symbols::{Scope, symbol_value};
 use asm_tokens::{Mark, Placed, Term, Token, word_term};
 
 /// A value, and the tokens behind it.
-#[derive(Clone, Copy, Debug)]
+#[derive(Clone, Copy)]
 struct Found<'t, 'a> {
     value: u64,
     rest: &'t [Placed<'a>],

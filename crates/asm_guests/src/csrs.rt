@@ -8,7 +8,7 @@ use rv64_instructions::{Csr, CsrHow};
 use sv39::{Satp, Spaces};
 
 /// A guest's CSRs. satp, sie and SIE are copies of the board's; the board doesn't have the others (Privileged 4.1).
-#[derive(Clone, Copy, Debug)]
+#[derive(Clone, Copy)]
 pub struct GuestCsrs {
     /// satp.
     pub satp: Satp,

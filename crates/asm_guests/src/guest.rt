@@ -34,7 +34,7 @@ pub trait Code {
 }
 
 /// Why a guest can't go on, although it isn't through.
-#[derive(Clone, Copy, Debug, PartialEq, Eq)]
+#[derive(Clone, Copy, PartialEq, Eq)]
 pub enum Lost {
     /// No instruction is at its address.
     NoInstruction,
@@ -47,7 +47,7 @@ pub enum Lost {
 }
 
 /// A guest between two operations.
-#[derive(Clone, Copy, Debug)]
+#[derive(Clone, Copy)]
 pub enum AsmGuest {
     /// Its hart wasn't entered.
     Nowhere,

@@ -14,7 +14,7 @@ use rv64_instructions::{Csr, CsrHow, CsrSource, Instruction, Register};
 use sv39::Spaces;
 
 /// What an instruction was for its guest.
-#[derive(Clone, Copy, Debug, PartialEq, Eq)]
+#[derive(Clone, Copy, PartialEq, Eq)]
 pub(crate) enum Did {
     /// A local step.
     Stepped,

@@ -15,7 +15,7 @@ use rv64_instructions::{Instruction, Register};
 use sv39::Spaces;
 
 /// How a guest goes on passed an operation.
-#[derive(Clone, Copy, Debug, PartialEq, Eq)]
+#[derive(Clone, Copy, PartialEq, Eq)]
 pub(crate) enum Came {
     /// It goes on.
     GoesOn,

@@ -7,7 +7,7 @@ use crate::csrs::GuestCsrs;
 use rv64_instructions::{CsrSource, Register};
 
 /// What a register holds. An unknown value counts as 0.
-#[derive(Clone, Copy, Debug)]
+#[derive(Clone, Copy)]
 pub struct RegisterContent {
     /// Its value.
     pub value: u64,
@@ -16,7 +16,7 @@ pub struct RegisterContent {
 }
 
 /// The state of a guest (unprivileged ISA 2.1).
-#[derive(Clone, Copy, Debug)]
+#[derive(Clone, Copy)]
 pub struct GuestState {
     /// The address of the next instruction.
     pub pc: u64,

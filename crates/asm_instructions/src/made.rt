@@ -2,7 +2,7 @@
 use rv64_instructions::Instruction;
 
 /// The machine's instructions that stand for one of the text, each of 4 bytes.
-#[derive(Clone, Copy, Debug)]
+#[derive(Clone, Copy)]
 pub enum Made {
     /// One.
     One(Instruction),

@@ -12,7 +12,7 @@ use rv64_alu::LoadKind;
 use rv64_instructions::{Instruction, Register};
 
 /// A store of 8 bytes, or of fewer.
-#[derive(Clone, Copy, Debug, PartialEq, Eq)]
+#[derive(Clone, Copy, PartialEq, Eq)]
 pub(crate) enum StoreSize {
     /// SD.
     Double,

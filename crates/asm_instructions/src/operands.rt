@@ -10,7 +10,7 @@ use asm_tokens::{Mark, Placed, Token, register_number};
 use rv64_instructions::Csr;
 
 /// A CSR by its name.
-#[derive(Clone, Copy, Debug, PartialEq, Eq)]
+#[derive(Clone, Copy, PartialEq, Eq)]
 pub enum CsrName {
     /// One whose copy guests keep.
     Kept(Csr),
@@ -19,7 +19,7 @@ pub enum CsrName {
 }
 
 /// An operand of an instruction.
-#[derive(Clone, Copy, Debug)]
+#[derive(Clone, Copy)]
 pub enum Operand {
     /// A register, by its number.
     Register(u8),
@@ -32,7 +32,7 @@ pub enum Operand {
 }
 
 /// The operands of an instruction.
-#[derive(Clone, Copy, Debug)]
+#[derive(Clone, Copy)]
 pub enum Operands {
     /// None.
     Nothing,

@@ -4,7 +4,7 @@ use rv64_alu::{AluOp, Comparison, LoadKind};
 use rv64_instructions::CsrHow;
 
 /// The operands of an instruction, and what it does with them.
-#[derive(Clone, Copy, Debug, PartialEq, Eq)]
+#[derive(Clone, Copy, PartialEq, Eq)]
 pub enum OperandForm {
     /// `rd, rs1, rs2`: an operation on two registers.
     Registers(AluOp),
@@ -95,7 +95,7 @@ pub enum OperandForm {
 }
 
 /// Why an instruction isn't obeyed, with what to write instead (profile).
-#[derive(Clone, Copy, Debug, PartialEq, Eq)]
+#[derive(Clone, Copy, PartialEq, Eq)]
 pub enum Unsupported {
     /// LR and SC: write `amocas.d`, or another AMO.
     Reservation,

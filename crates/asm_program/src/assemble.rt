@@ -34,7 +34,7 @@ pub struct Assembly<'a> {
 }
 
 /// What is wrong with a program.
-#[derive(Clone, Copy, Debug, PartialEq, Eq)]
+#[derive(Clone, Copy, PartialEq, Eq)]
 pub enum ProgramWrong {
     /// Its characters.
     InText(BadText),
@@ -43,7 +43,7 @@ pub enum ProgramWrong {
 }
 
 /// The first fault of a program.
-#[derive(Clone, Copy, Debug, PartialEq, Eq)]
+#[derive(Clone, Copy, PartialEq, Eq)]
 pub struct ProgramFault {
     /// What is wrong.
     pub wrong: ProgramWrong,
@@ -52,7 +52,7 @@ pub struct ProgramFault {
 }
 
 /// Why a text wasn't assembled.
-#[derive(Clone, Copy, Debug, PartialEq, Eq)]
+#[derive(Clone, Copy, PartialEq, Eq)]
 pub enum AssemblyError {
     /// Its first fault.
     Faulty(ProgramFault),

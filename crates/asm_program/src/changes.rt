@@ -18,7 +18,7 @@ use asm_instructions::first_operand;
 use asm_tokens::{Mark, Placed, Token};
 
 /// What a part changes.
-#[derive(Clone, Copy, Debug)]
+#[derive(Clone, Copy)]
 pub(crate) enum Change<'a> {
     /// Nothing.
     Stays,

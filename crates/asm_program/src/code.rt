@@ -7,7 +7,7 @@ use rv64_instructions::Instruction;
 use std::alloc::AllocError;
 
 /// An instruction at its address.
-#[derive(Clone, Copy, Debug)]
+#[derive(Clone, Copy)]
 pub struct CodeLine {
     /// The address.
     pub at: u64,

@@ -12,7 +12,7 @@ use asm_instructions::first_operand;
 use asm_tokens::Placed;
 
 /// A number in memory, its lowest byte first.
-#[derive(Clone, Copy, Debug, PartialEq, Eq)]
+#[derive(Clone, Copy, PartialEq, Eq)]
 pub struct Datum {
     /// The address of its lowest byte.
     pub at: u64,

@@ -5,7 +5,7 @@ ghost use Rattle.asm_program.specs.Directives.{directive_in, directive_of, liste
 use crate::sections::Section;
 
 /// A directive.
-#[derive(Clone, Copy, Debug, PartialEq, Eq)]
+#[derive(Clone, Copy, PartialEq, Eq)]
 pub(crate) enum Directive {
     /// `.equ` and `.set`: a symbol.
     Equ,

@@ -11,7 +11,7 @@ use asm_mnemonics::{OperandForm, operands_of};
 use asm_tokens::{Mark, Placed, Token};
 
 /// What a part says.
-#[derive(Clone, Copy, Debug)]
+#[derive(Clone, Copy)]
 pub(crate) enum Form<'t, 'a> {
     /// Nothing.
     Nothing,

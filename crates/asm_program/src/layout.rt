@@ -12,7 +12,7 @@ use asm_expressions::{Fault, Scope, Symbol};
 use std::alloc::{AllocError, Global};
 
 /// A part where it stands.
-#[derive(Clone, Copy, Debug)]
+#[derive(Clone, Copy)]
 pub(crate) struct Statement<'t, 'a> {
     /// The part.
     pub part: Part<'t, 'a>,

@@ -7,7 +7,7 @@ use asm_tokens::{Mark, Placed, Token};
 use std::alloc::{AllocError, Global};
 
 /// A label with its `:`, or the tokens of a statement.
-#[derive(Clone, Copy, Debug)]
+#[derive(Clone, Copy)]
 pub(crate) struct Part<'t, 'a> {
     /// Its tokens.
     pub tokens: &'t [Placed<'a>],

@@ -3,7 +3,7 @@ ghost use Rattle.std.specs.Prelude.{◌≡◌, map};
 ghost use Rattle.asm_program.specs.Sections.{are_settled, bases_of, belongs_to, counter_of, is_dotted_rest, page_behind, section_in, section_of, with_counter};
 
 /// A section of a program.
-#[derive(Clone, Copy, Debug, PartialEq, Eq)]
+#[derive(Clone, Copy, PartialEq, Eq)]
 pub(crate) enum Section {
     /// What `.org` puts at an address.
     Absolute,
@@ -18,7 +18,7 @@ pub(crate) enum Section {
 }
 
 /// The address at which each section goes on.
-#[derive(Clone, Copy, Debug, PartialEq, Eq)]
+#[derive(Clone, Copy, PartialEq, Eq)]
 pub(crate) struct Counters {
     /// That behind the last `.org`.
     pub absolute: u64,

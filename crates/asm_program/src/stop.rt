@@ -6,7 +6,7 @@ use asm_expressions::Fault;
 use std::alloc::{AllocError, AllocFailed};
 
 /// What stops a pass.
-#[derive(Clone, Copy, Debug)]
+#[derive(Clone, Copy)]
 pub(crate) enum Stop {
     /// A fault.
     At(Fault),

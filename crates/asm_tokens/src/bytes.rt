@@ -5,7 +5,7 @@ ghost use Rattle.asm_tokens.specs.Bytes.{class_of, is_asm_blank, is_inline, is_l
 use crate::marks::{Mark, mark_of_byte};
 
 /// What a byte begins.
-#[derive(Clone, Copy, Debug, PartialEq, Eq)]
+#[derive(Clone, Copy, PartialEq, Eq)]
 pub(crate) enum ByteClass {
     /// A blank, a tab, or a carriage return: blanks.
     Blank,

@@ -7,7 +7,7 @@ use crate::tokens::{BadText, First, Token, first_token};
 use std::alloc::{AllocFailed, Global};
 
 /// A token, and its place.
-#[derive(Clone, Copy, Debug)]
+#[derive(Clone, Copy)]
 pub struct Placed<'a> {
     /// The token.
     pub token: Token<'a>,
@@ -16,7 +16,7 @@ pub struct Placed<'a> {
 }
 
 /// What is wrong with a text, and its place.
-#[derive(Clone, Copy, Debug, PartialEq, Eq)]
+#[derive(Clone, Copy, PartialEq, Eq)]
 pub struct TokenFault {
     /// What is wrong.
     pub wrong: BadText,
@@ -25,7 +25,7 @@ pub struct TokenFault {
 }
 
 /// Why a text wasn't read.
-#[derive(Clone, Copy, Debug, PartialEq, Eq)]
+#[derive(Clone, Copy, PartialEq, Eq)]
 pub enum TokensFault {
     /// Its first fault.
     Wrong(TokenFault),

@@ -5,7 +5,7 @@ ghost use Rattle.asm_tokens.specs.Runs.{behind_comment, closing_quote, is_in, ru
 use crate::bytes::{is_asm_blank, is_inline, is_letter};
 
 /// A run of bytes of one kind.
-#[derive(Clone, Copy, Debug, PartialEq, Eq)]
+#[derive(Clone, Copy, PartialEq, Eq)]
 pub(crate) enum Run {
     /// Blanks.
     Blanks,

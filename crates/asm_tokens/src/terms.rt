@@ -5,7 +5,7 @@ ghost use Rattle.asm_tokens.specs.Terms.{begins_number, is_direction, is_local_b
 use crate::numbers::asm_number;
 
 /// A word as a value.
-#[derive(Clone, Copy, Debug)]
+#[derive(Clone, Copy)]
 pub enum Term<'a> {
     /// A number below 2^64.
     Number(u64),

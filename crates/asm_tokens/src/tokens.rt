@@ -8,7 +8,7 @@ use crate::marks::Mark;
 use crate::runs::{Run, behind_comment, closing_quote, run_len};
 
 /// A token of a text.
-#[derive(Clone, Copy, Debug)]
+#[derive(Clone, Copy)]
 pub enum Token<'a> {
     /// A name, a mnemonic, a directive or a number.
     Word(&'a [u8]),
@@ -21,7 +21,7 @@ pub enum Token<'a> {
 }
 
 /// What is wrong with a text, at its first byte.
-#[derive(Clone, Copy, Debug, PartialEq, Eq)]
+#[derive(Clone, Copy, PartialEq, Eq)]
 pub enum BadText {
     /// A byte that begins no token.
     BadByte,
@@ -32,7 +32,7 @@ pub enum BadText {
 }
 
 /// What a text begins with, and the text behind it.
-#[derive(Clone, Copy, Debug)]
+#[derive(Clone, Copy)]
 pub enum First<'a> {
     /// Nothing: the text is empty.
     Over,

@@ -12,7 +12,7 @@ use clap::{Arg, Command, Error};
 use std::alloc::{AllocError, Global};
 
 /// What the program is asked to do.
-#[derive(Clone, Copy, Debug, PartialEq, Eq)]
+#[derive(Clone, Copy, PartialEq, Eq)]
 pub enum Subcommand<'a> {
     /// Run the program in this file on threads.
     Run {

@@ -38,7 +38,7 @@ pub enum Wrong {
 }
 
 /// A condition that can't be read.
-#[derive(Clone, Copy, Debug, PartialEq, Eq)]
+#[derive(Clone, Copy, PartialEq, Eq)]
 pub struct Fault {
     /// The line's number, from 1.
     pub line: u64,
@@ -49,7 +49,7 @@ pub struct Fault {
 }
 
 /// What is wrong with a line, and in which column.
-#[derive(Clone, Copy, Debug)]
+#[derive(Clone, Copy)]
 pub(crate) struct Unread {
     pub(crate) column: u64,
     pub(crate) wrong: Wrong,

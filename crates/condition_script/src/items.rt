@@ -5,7 +5,7 @@ ghost use Rattle.condition_script.specs.Grammar.{signed_item};
 use crate::names::Name;
 
 /// A word of a step.
-#[derive(Clone, Copy, Debug, PartialEq, Eq)]
+#[derive(Clone, Copy, PartialEq, Eq)]
 pub enum Item {
     /// A name.
     Word(Name),

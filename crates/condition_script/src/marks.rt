@@ -3,7 +3,7 @@ ghost use Rattle.std.specs.Prelude.{◌≡◌, MatchOption, None};
 ghost use Rattle.condition_script.specs.Grammar.{mark_name, mark_named};
 
 /// What a condition says of an access beside its reply, by a word in the place of a reply.
-#[derive(Clone, Copy, Debug, PartialEq, Eq)]
+#[derive(Clone, Copy, PartialEq, Eq)]
 pub enum Mark {
     /// `stale`: the entry that the access used gave it another physical address, or another fault, than the page tables.
     Stale,

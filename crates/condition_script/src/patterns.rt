@@ -2,7 +2,7 @@
 use crate::items::Item;
 
 /// A pattern of steps: the words of an actor's line and of its reply, None for `_`.
-#[derive(Debug, Drop)]
+#[derive(Drop)]
 pub struct Pattern {
     /// The actor, the operation, and its numbers.
     pub step: Vec<Option<Item>>,

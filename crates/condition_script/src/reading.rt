@@ -14,7 +14,7 @@ use line_words::next_line;
 use std::alloc::Global;
 
 /// A condition of a script.
-#[derive(Debug, Drop)]
+#[derive(Drop)]
 pub struct Condition {
     /// Its line's number, from 1.
     pub line: u64,

@@ -5,7 +5,7 @@ ghost use Rattle.condition_script.specs.Grammar.{ending_named, ending_word};
 use crate::patterns::Pattern;
 
 /// How a run ended, as conditions name it.
-#[derive(Clone, Copy, Debug, PartialEq, Eq)]
+#[derive(Clone, Copy, PartialEq, Eq)]
 pub enum Ending {
     /// `off`
     Off,
@@ -40,7 +40,7 @@ impl Ending {
 }
 
 /// A condition on records.
-#[derive(Debug, Drop)]
+#[derive(Drop)]
 pub enum Rule {
     /// `never P`: P matches no step. So are `never MARK`, of any step, and `steady P`, `firm P` and `lenient P`, of the marks
     /// `unsteady`, `unfirm` and `unlenient`.

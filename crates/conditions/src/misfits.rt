@@ -19,7 +19,7 @@ use sv39::Kind;
 const LAST_ERROR: u64 = 8;
 
 /// A word of a pattern that no step of a board can have in its place.
-#[derive(Clone, Copy, Debug, PartialEq, Eq)]
+#[derive(Clone, Copy, PartialEq, Eq)]
 pub enum Misfit {
     /// The board has no such hart.
     NoHart(u64),

@@ -12,7 +12,7 @@ use condition_script::{Item, Name, Pattern, Rule};
 use script_lines::OpName;
 
 /// Which of the steps that a condition needs were met in some record.
-#[derive(Clone, Copy, Debug, PartialEq, Eq)]
+#[derive(Clone, Copy, PartialEq, Eq)]
 pub struct NeedsMet {
     /// The step of its first pattern.
     pub first: bool,

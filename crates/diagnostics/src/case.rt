@@ -5,7 +5,7 @@ use std::alloc::{AllocError, Global};
 use std::str;
 
 /// A file under test.
-#[derive(Clone, Copy, Debug)]
+#[derive(Clone, Copy)]
 pub struct Case<'a> {
     /// Its name, as given.
     pub file: &'a str,

@@ -3,7 +3,7 @@ use conditions::Condition;
 use guest_script::Script;
 
 /// Orders of a program with numbers of a range, picked from a seed, and the conditions on their records.
-#[derive(Clone, Copy, Debug)]
+#[derive(Clone, Copy)]
 pub struct Batch<'a> {
     /// The program.
     pub script: &'a Script,

@@ -9,7 +9,7 @@ ghost use Rattle.outcome_statistics.specs.Judgements.{NoneEnded};
 use guest_programs::End;
 
 /// How many orders ended in which way.
-#[derive(Clone, Copy, Debug, PartialEq, Eq)]
+#[derive(Clone, Copy, PartialEq, Eq)]
 pub struct Ends {
     /// The power was off.
     pub off: u64,

@@ -19,7 +19,7 @@ use std::alloc::{AllocError, Global};
 use std::collections::BTreeSet;
 
 /// Findings for one condition.
-#[derive(Clone, Copy, Debug)]
+#[derive(Clone, Copy)]
 pub struct Judged {
     /// How many records meet it.
     pub tally: Tally,

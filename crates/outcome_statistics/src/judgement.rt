@@ -10,7 +10,7 @@ use crate::findings::Judged;
 use conditions::{Condition, Ending, Rule};
 
 /// The verdict of the tried orders on a condition, or on a program without conditions.
-#[derive(Clone, Copy, Debug, PartialEq, Eq)]
+#[derive(Clone, Copy, PartialEq, Eq)]
 pub enum Judgement {
     /// No order was tried.
     NotTried,

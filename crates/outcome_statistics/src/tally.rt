@@ -6,7 +6,7 @@ ghost use Rattle.outcome_statistics.specs.Records.{AllMeet, EachIs, IsSo, SomeIs
 use conditions::Rule;
 
 /// How many of the tried records pass.
-#[derive(Clone, Copy, Debug, PartialEq, Eq)]
+#[derive(Clone, Copy, PartialEq, Eq)]
 pub struct Tally {
     /// How many pass.
     pub holding: u64,

@@ -13,7 +13,7 @@ use std::alloc::{AllocError, Global};
 use std::collections::{BTreeMap, BTreeSet};
 
 /// An operation of a block: the block's address, and how many operations stand before it.
-#[derive(Clone, Copy, Debug, PartialEq, Eq, PartialOrd, Ord, Hash)]
+#[derive(Clone, Copy, PartialEq, Eq, PartialOrd, Ord, Hash)]
 pub struct Spot {
     /// The address.
     pub addr: u64,
@@ -23,7 +23,7 @@ pub struct Spot {
 
 /// A step by its actor and its place in the script: a guest's in its block, the firmware's by its operation, the clock's by its
 /// ticks.
-#[derive(Clone, Copy, Debug, PartialEq, Eq, PartialOrd, Ord)]
+#[derive(Clone, Copy, PartialEq, Eq, PartialOrd, Ord)]
 pub struct Deed {
     /// The hart; none for the clock.
     pub hart: Option<u64>,

@@ -12,6 +12,8 @@ use sbiboard::{NoOutcome, Outcome, ReadFault, ended};
 use std::alloc::AllocError;
 use std::fmt::Display;
 use std::io::{self, ErrorKind};
+use sv39::{Leaf, Level};
+use tlb_model::Entry;
 
 /// Shows a set's size, and its ids in their order.
 fn show_set<R: Print>(rt: &R, name: &str, set: HartSet) -> io::Result<()> {
@@ -219,4 +221,20 @@ pub fn show_endings<R: Print + Eprint>(rt: &R) -> io::Result<()> {
         "{} refused memory",
         ended(rt, Err(NoOutcome::from(AllocError)))
     )
+}
+
+const LEAF: Leaf = Leaf {
+    page: 0x1000,
+    pa: 0x8000_0000,
+    level: Level::Mega,
+    global: true,
+    r: true,
+    w: false,
+    x: true,
+    d: false,
+};
+
+/// What `Debug` writes of an entry, which is kept smaller than it is told.
+pub fn show_entry<R: Print>(rt: &R) -> io::Result<()> {
+    println!(rt; "{:?}", Entry::new(LEAF, 5))
 }

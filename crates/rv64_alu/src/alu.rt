@@ -8,7 +8,7 @@ use crate::word::{WordOp, extended, low_word};
 
 /// An operation on two registers, or on a register and an immediate; both forms have one name, without `i` (unprivileged ISA
 /// 2.4, 5.2, 7.1, 7.2).
-#[derive(Clone, Copy, Debug, PartialEq, Eq)]
+#[derive(Clone, Copy, PartialEq, Eq)]
 pub enum AluOp {
     /// ADD and ADDI: the sum.
     Add,

@@ -3,7 +3,7 @@ ghost use Rattle.std.specs.Prelude.{◌≡◌};
 ghost use Rattle.rv64_alu.specs.Comparisons.{is_taken};
 
 /// When a branch is taken (unprivileged ISA 2.5).
-#[derive(Clone, Copy, Debug, PartialEq, Eq)]
+#[derive(Clone, Copy, PartialEq, Eq)]
 pub enum Comparison {
     /// BEQ: the registers are equal.
     Eq,

@@ -5,7 +5,7 @@ ghost use Rattle.rv64_alu.specs.Loads.{load_size, loaded, loaded_part, lower_bit
 use crate::word::extended;
 
 /// A load, by its name (unprivileged ISA 2.6, 5.3).
-#[derive(Clone, Copy, Debug, PartialEq, Eq)]
+#[derive(Clone, Copy, PartialEq, Eq)]
 pub enum LoadKind {
     /// LB: 1 byte, sign-extended.
     Lb,

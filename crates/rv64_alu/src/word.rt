@@ -6,7 +6,7 @@ ghost use Rattle.rv64_alu.specs.Table.{computed_word};
 ghost use Rattle.rv64_alu.specs.Words.{extended, low_word};
 
 /// An operation on the low 4 bytes of two registers, by its name without `w` (unprivileged ISA 5.2, 7.1, 7.2).
-#[derive(Clone, Copy, Debug, PartialEq, Eq)]
+#[derive(Clone, Copy, PartialEq, Eq)]
 pub enum WordOp {
     /// ADDW and ADDIW: the sum.
     Add,

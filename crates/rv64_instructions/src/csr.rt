@@ -5,7 +5,7 @@ ghost use Rattle.rv64_instructions.specs.CsrSources.{is_zero_source, writes_csr}
 use crate::register::Register;
 
 /// A CSR of a supervisor that guests can name (Privileged 4.1).
-#[derive(Clone, Copy, Debug, PartialEq, Eq)]
+#[derive(Clone, Copy, PartialEq, Eq)]
 pub enum Csr {
     /// sstatus, of which SIE, SPIE and SPP are kept (Privileged 4.1.1).
     Sstatus,
@@ -26,7 +26,7 @@ pub enum Csr {
 }
 
 /// How an instruction writes a CSR (unprivileged ISA 9.1).
-#[derive(Clone, Copy, Debug, PartialEq, Eq)]
+#[derive(Clone, Copy, PartialEq, Eq)]
 pub enum CsrHow {
     /// CSRRW and CSRRWI: the operand.
     Write,
@@ -37,7 +37,7 @@ pub enum CsrHow {
 }
 
 /// The operand of a CSR instruction (unprivileged ISA 9.1).
-#[derive(Clone, Copy, Debug, PartialEq, Eq)]
+#[derive(Clone, Copy, PartialEq, Eq)]
 pub enum CsrSource {
     /// The value of a register.
     Register(Register),

@@ -5,7 +5,7 @@ use amo::AmoName;
 use rv64_alu::{AluOp, Comparison, LoadKind};
 
 /// An instruction, as the assembler reads it: a target is an address (unprivileged ISA 2, 5, 7, 9; Privileged 3.3, 4.2).
-#[derive(Clone, Copy, Debug, PartialEq, Eq)]
+#[derive(Clone, Copy, PartialEq, Eq)]
 pub enum Instruction {
     /// An operation on two registers.
     Compute {

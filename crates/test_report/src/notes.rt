@@ -47,7 +47,7 @@ impl fmt::Display for StaleAccess {
 }
 
 /// What a load, a fetch or an AMO gave: a value, or the number of its fault's cause.
-#[derive(Clone, Copy, Debug, PartialEq, Eq, Hash)]
+#[derive(Clone, Copy, PartialEq, Eq, Hash)]
 pub enum Given {
     /// A value.
     Value(u64),

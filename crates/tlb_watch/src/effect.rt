@@ -3,7 +3,7 @@
 use tlb_model::Flush;
 
 /// What an event does to the caches of the harts, whatever they keep.
-#[derive(Clone, Copy, Debug, PartialEq, Eq)]
+#[derive(Clone, Copy, PartialEq, Eq)]
 pub enum CacheEffect {
     /// Nothing.
     Nothing,

@@ -1,7 +1,7 @@
 //! Addresses at harts.
 
 /// An address at a hart: a virtual one, or a physical one.
-#[derive(Clone, Copy, Debug, PartialEq, Eq)]
+#[derive(Clone, Copy, PartialEq, Eq)]
 pub struct HartAddress {
     /// The hart.
     pub hart: u64,

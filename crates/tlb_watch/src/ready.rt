@@ -19,7 +19,7 @@ use sv39::Spaces;
 use tlb_model::{Fence, Flush, is_wrong_range};
 
 /// What a hart has before its step that decides, with the operation and the reply, what the step does to caches.
-#[derive(Clone, Copy, Debug, PartialEq, Eq)]
+#[derive(Clone, Copy, PartialEq, Eq)]
 pub struct Ready {
     /// The hart.
     pub hart: u64,

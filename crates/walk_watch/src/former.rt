@@ -4,7 +4,7 @@ use sv39::Satp;
 use tlb_model::Flush;
 
 /// A word that the memory had before it changed.
-#[derive(Clone, Copy, Debug, PartialEq, Eq)]
+#[derive(Clone, Copy, PartialEq, Eq)]
 pub struct FormerWord {
     /// Its physical address.
     pub at: u128,
