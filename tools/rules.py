@@ -78,7 +78,7 @@ RULES = {
     "kept": Rule("a translation or a fetched word is kept until a fence covers it, or sixteen fills came", MEMORY, OPEN, "Priv 4.2.1", "any"),
     "own rights": Rule("an entry of the TLB decides by its own rights", MEMORY, OPEN, "Priv 4.2.1", "any"),
     "accessed, dirty": Rule("A and D are never set by the hardware: 0 is a page fault", MEMORY, OPEN, "Priv 4.3.1", "any"),
-    "aligned": Rule("an access has 8 bytes and is aligned to 8; misalignment is looked at first", MEMORY, OWN, "Priv 3.7", "any"),
+    "aligned": Rule("a load or fetch has 8 bytes, and an access is aligned to its size; misalignment is looked at first", MEMORY, OWN, "Priv 3.7", "any"),
     "user pages": Rule("a page with U is a page fault, and so is an entry with one of bits 63 to 54", MEMORY, OWN, "Priv 4.3.1", "any"),
     "ipis": Rule("an IPI that succeeds makes SSIP 1 at each hart that it names, and at no other", EFFECTS, BREAKS, "7.1", "any"),
     "fences": Rule("a remote fence that succeeds is carried out at each hart that it names", EFFECTS, BREAKS, "8.2, 8.3", "any"),
