@@ -74,7 +74,8 @@ FAULTS = (
     ("        .board 1, 4, 9, 0, 0x80000000, 0\n        .org 0x80000000\n        lr.d t0, (t1)\n", ":3:9: guests don't obey this instruction: 'lr.d t0, (t1)'"),
     ("        .board 1, 4, 9, 0, 0x80000000, 0\n        flw ft0, 0(a0)\n", ":2:13: nothing defines this symbol: 'ft0, 0(a0)'"),
     ("        .board 1, 4, 9, 0, 0x80000000, 0\n        unimp\n", ":2:9: no instruction has this mnemonic: 'unimp'"),
-    ("\t.board\t1, 4, 9, 0, 0x80000000, 0\n\t.string\t\"a\"\n", ":2:2: no directive is called so: '.string \"a\"'"),
+    ("\t.board\t1, 4, 9, 0, 0x80000000, 0\n\t.strings\t\"a\"\n", ":2:2: no directive is called so: '.strings \"a\"'"),
+    ("        .board 1, 4, 9, 0, 0x80000000, 0\n        .org 0x80000008\n        ebreak\n", ": no instruction stands at BOOTADDR, 0x80000000"),
     ("        ebreak\n", ": it needs one board: .board HARTS, PAGES, LIMIT, BOOTHART, BOOTADDR, BOOTOPAQUE"),
     ("        .board 200, 4, 9, 0, 0x80000000, 0\n", ": bad board: HARTS is 200, at most 128"),
     ("        .board 1, 4, 9, 0, 0x80000000, 0\n        .org 0x80003ffc\n        .dword 1\n", ": data at 0x80003ffc lie outside the RAM"),
@@ -248,7 +249,7 @@ data:   .byte   1, 0, -1
             lines, found = of_text(self.room, f"#! {asked}\n{text}")
             must(f"{asked}: {found}, {lines}", found == status and points(lines)[0].split(" - a.s: line 1: ")[1].startswith(asked.partition(" #")[0]))
         lines, status = of_text(self.room, f"#! never 1 load page page\n{text}")
-        must(f"{status}, {lines}", points(lines) == ["not ok 1 - a.s:1: too few or too many words: '\\#! never 1 load 0x80002000 0x80002000'"] and status == 1)
+        must(f"{status}, {lines}", points(lines) == ["not ok 1 - a.s:1:22: too few or too many words: 'page'"] and status == 1)
         lines, status = of_text(self.room, f"#! never 1 load pages\n{text}")
         must(f"{status}, {lines}", points(lines) == ["not ok 1 - a.s:1:17: not a number: 'pages'"] and status == 1)
 

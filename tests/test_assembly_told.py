@@ -30,6 +30,12 @@ WORDED = (
     ("before 0 ecall, 1 load", "holds in all orders"), ("each 0 ecall -> ret 0", "holds in all orders"), ("some 1 advance -> entry", "holds"), ("never c load", "no load is the clock's"),
     *((asked, "not judged: no marks are told of guests in assembly") for asked in ("steady", "firm", "lenient", "never missed", "never 1 load -> stale", "never 1 load -> unsteady", "never 1 load -> unfirm", "never 1 load -> unlenient")),
 )  # fmt: skip
+# Conditions that name the symbol `page` before their fault: its column, what is wrong, and the word.
+COLUMNS = (
+    ("never 1 load page -> valeu 1", 25, "unknown word: 'valeu'"), ("never 1 load page -> value 1 after 0 stroe page", 41, "unknown word: 'stroe'"), ("before 1 load page, 0 stroe page", 26, "unknown word: 'stroe'"),
+    ("before 1 load page", 22, "no comma"), ("before 1 load page,", 23, "too few or too many words"), ("never 1 load page ->", 24, "too few or too many words"), ("some 1 load page -> value page page", 35, "too few or too many words: 'page'"),
+    ("before 1 load page  ,  0 store pgae", 35, "not a number: 'pgae'"), ("never 1 load page -> value page after", 41, "too few or too many words"), ("nevr 1 load page", 4, "unknown condition: 'nevr'"),
+)  # fmt: skip
 # What hart 0 does, the operation that a condition asks of it with another number, and what it is told to do instead.
 INSTEAD = (
     ("li s0, 0x80002000\n ld t0, 0(s0)", "load 0x1 -> value 1", "loads 0x80002000"), ("li s0, 0x80002000\n fetch t0, 8(s0)", "fetch 0x1 -> value 1", "fetches 0x80002008"),
@@ -87,6 +93,15 @@ class AssemblyTold(Test):
         # (a local label's name is a number, which stays one)
         lines, status = of_text(self.room, f"#! some 1 load 0x80002000 -> value 1\n{LOADS.replace('other:', '1: nop' + chr(10) + 'other:')}")
         must(f"{status}, {lines}", status == 0)
+
+    def test_columns_of_conditions_with_symbols(self):
+        """A fault is told at its word in the text, though a symbol before it is longer or shorter than its number."""
+        for symbol in ("page", "p", "a_page_that_moves"):
+            for asked, column, wrong in COLUMNS:
+                front = asked[: column - 4]
+                at = column + front.count("page") * (len(symbol) - 4)
+                lines, status = of_text(self.room, f"#! {asked.replace('page', symbol)}\n        .equ {symbol}, 0x80002000\n{LOADS}")
+                must(f"{asked}: {status}, {lines}", status == 1 and points(lines) == [f"not ok 1 - a.s:1:{at}: {wrong.replace('page', symbol)}"])
 
     def test_whole_points_of_guests(self):
         """Of the page's first example all lines are as they stand there, and of its twin: no line more."""
@@ -157,6 +172,16 @@ class AssemblyTold(Test):
         stores = [it.split(None, 2)[2].partition(" ->")[0] for it in lines if re.match(r"    \d+ 0 store", it)]
         must(f"{status}, {lines}", status == 1 and stores[:3] == ["store2 0x80001000 0x1234", "store2 0x80001002 0xfedc", "store4 0x80001004 0x99aabbcc"])
         must(f"{stores}", stores[3:] == [f"store1 {0x8000100A + at:#x} {5 if not at else 0:#x}" for at in range(4)])
+
+    def test_strings_of_guests(self):
+        """A string's bytes are data, its escapes among them, with a 0 behind them or none; what isn't one is a fault."""
+        data = '.string "a\\n\\"\\\\\\t"\n .ascii "\\101\\377;#"\n .asciz ""\n .ascii "b\\r\\f\\b"\n .byte 1'
+        asked = "#! some 0 load 0x80001000 -> value 0xff4100095c220a61\n#! some 0 load 0x80001008 -> value 0x1080c0d6200233b\n"
+        lines, status = of_text(self.room, asked + ONE + lines_of("la t0, text\n ld t1, 0(t0)\n ld t1, 8(t0)\n ebreak\n .data") + "text:\n" + lines_of(data))
+        must(f"{status}, {lines}", status == 0 and len(points(lines)) == 2)
+        for operands in (r'"\q"', '5', '"a", "b"', r'"\400"', r'"\12"', r'"\189"', "", r'"a" 1'):
+            lines, status = of_text(self.room, f"{ONE}        .string {operands}\n")
+            must(f"{operands}: {status}, {lines}", status == 1 and points(lines)[0].startswith("not ok 1 - a.s:3:9: these aren't the operands that it takes: '.string"))
 
     def test_long_files_of_guests(self):
         """A file has at most 16,777,216 bytes."""

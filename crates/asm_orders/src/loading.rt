@@ -91,15 +91,17 @@ pub(crate) fn load<'a>(alloc: Global, text: &'a [u8]) -> Result<Loaded<'a>, Unlo
         Err(AssemblyError::Faulty(fault)) => return Err(faulty(alloc, text, fault)?),
         Err(AssemblyError::NoMemory) => return Err(Unloaded::NoMemory),
     };
-    let Some(config) = board_of(program.data.as_slice()) else {
+    let Some(board) = board_of(program.data.as_slice()) else {
         return Err(unread(
             alloc,
             "it needs one board: .board HARTS, PAGES, LIMIT, BOOTHART, BOOTADDR, BOOTOPAQUE",
         )?);
     };
-    let config = with_loader(alloc, &mut program, config)?;
+    let has_begin = program.code.iter().any(|line| line.at == board.boot_addr);
+    let config = with_loader(alloc, &mut program, board)?;
     let numbered = with_numbers(alloc, text, &program.symbols)?;
     match conditions(alloc, &numbered) {
+        Ok(_) if board.is_good() && !has_begin => Err(without_begin(alloc, board.boot_addr)?),
         Ok(conditions) => Ok(Loaded {
             program,
             config,
@@ -108,6 +110,11 @@ pub(crate) fn load<'a>(alloc: Global, text: &'a [u8]) -> Result<Loaded<'a>, Unlo
         Err(found) if found.wrong == Wrong::NoMemory => Err(Unloaded::NoMemory),
         Err(found) => Err(Unloaded::File(bad_numbered(alloc, text, &numbered, found)?)),
     }
+}
+
+/// A program without an instruction where its boot hart begins.
+fn without_begin(alloc: Global, boot_addr: u64) -> Result<Unloaded, AllocError> {
+    Ok(Unloaded::File(format!(in alloc; ": no instruction stands at BOOTADDR, {boot_addr:#x}")?))
 }
 
 /// A program with a fault: its line and column, what is wrong, and the rest of the line.

@@ -4,7 +4,6 @@ use conditions::Fault;
 use diagnostics::bad_condition;
 use script_lines::{OpName, SaidName};
 use std::alloc::{AllocError, Global};
-use std::str;
 
 /// Words of conditions, beside the names of operations and replies.
 const WORDS: [&[u8]; 21] = [
@@ -122,7 +121,7 @@ fn is_of_conditions(word: &[u8]) -> bool {
     WORDS.iter().any(|it| *it == word) || OpName::of(word).is_some() || SaidName::of(word).is_some()
 }
 
-/// The message of a condition's fault: the place in the text as it stands, or the condition with its numbers if it names symbols.
+/// The message of a condition's fault, at its place in the text as it stands.
 ///
 /// # Errors
 ///
@@ -133,14 +132,39 @@ pub(crate) fn bad_numbered(
     numbered: &[u8],
     found: Fault,
 ) -> Result<String, AllocError> {
-    let asked = line_of(numbered, found.line);
-    if line_of(text, found.line) == asked {
-        return bad_condition(alloc, text, found);
+    let column = column_in(
+        line_of(text, found.line),
+        line_of(numbered, found.line),
+        found.column,
+    );
+    bad_condition(alloc, text, Fault { column, ..found })
+}
+
+/// The column in a line of the word that stands in this one of the same line with numbers, whose words are as many. Columns count
+/// from 1.
+fn column_in(line: &[u8], numbered: &[u8], column: u64) -> u64 {
+    let at = column.saturating_sub(1) as usize;
+    let front = numbered.get(..at).unwrap_or(numbered);
+    if line.starts_with(front) {
+        return column;
     }
-    let line = found.line;
-    let wrong = found.wrong;
-    let asked = str::from_utf8(asked).unwrap_or("").trim();
-    format!(in alloc; ":{line}: {wrong}: '{asked}'")
+    let before = (0..front.len())
+        .filter(|i| begins_word(numbered, *i))
+        .count();
+    match (0..line.len())
+        .filter(|i| begins_word(line, *i))
+        .nth(before)
+    {
+        Some(i) => (i as u64).saturating_add(1),
+        None => (line.trim_ascii_end().len() as u64).saturating_add(1),
+    }
+}
+
+/// Whether a word of a condition begins in this place of a line. A comma is one.
+fn begins_word(line: &[u8], at: usize) -> bool {
+    let byte = line.get(at).copied().unwrap_or(b' ');
+    let before = line.get(at.wrapping_sub(1)).copied().unwrap_or(b' ');
+    byte == b',' || (!is_between(byte) && is_between(before))
 }
 
 /// A line of a text; both count from 1.

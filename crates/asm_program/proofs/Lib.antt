@@ -1,4 +1,5 @@
 pub mod More
 pub mod Stops
+pub mod StringBytes
 pub mod Relation
 pub mod Entry

@@ -6,6 +6,7 @@ pub mod Moves
 pub mod Layout
 pub mod Code
 pub mod Data
+pub mod Strings
 pub mod Written
 pub mod Assembles
 pub mod Laws

@@ -10,7 +10,8 @@ use Rattle.asm_mnemonics.specs.declared.forms.OperandForm.{OperandForm}
 use Rattle.asm_tokens.specs.Readings.{TokenSpot}
 use Rattle.asm_tokens.specs.Statements.{is_comma}
 use Rattle.asm_program.specs.declared.directives.Directive.{Directive}
-use Rattle.asm_program.specs.declared.directives.Directive.TheVariants.{Data, Space, Align, Balign}
+use Rattle.asm_program.specs.declared.directives.Directive.TheVariants.{Ascii, Data, Space, Align, Balign}
+use Rattle.asm_program.specs.Strings.{string_size}
 
 -- the address behind so many pieces of a size, within the address space
 abbrev pub moved_by : (here size count left : ℕ) → Result ℕ Fault
@@ -47,6 +48,9 @@ up_to_power here left bits = if nat_le 64 bits then wrong_at OutOfRange left els
 -- The address behind a directive that moves on.
 abbrev pub behind_directive : Context → Directive → (left : ℕ) → List TokenSpot → Result ℕ Fault
 behind_directive scope (Data size) left operands = moved_by scope.here size (how_many_numbers operands) left
+behind_directive scope (Ascii is_ended) left operands = do
+  size ← string_size is_ended left operands
+  moved_by scope.here 1 size left
 behind_directive scope Space left operands = do
   size ← value_of scope operands
   moved_by scope.here 1 size left

@@ -6,12 +6,13 @@ use Rattle.asm_instructions.specs.declared.made.Made.{Made}
 use Rattle.asm_instructions.specs.Rules.{instructions_of}
 use Rattle.asm_program.specs.declared.code.CodeLine.{CodeLine}
 use Rattle.asm_program.specs.declared.data.Datum.{Datum}
-use Rattle.asm_program.specs.declared.directives.Directive.TheVariants.{Data}
+use Rattle.asm_program.specs.declared.directives.Directive.TheVariants.{Ascii, Data}
 use Rattle.asm_program.specs.Code.{code_lines}
 use Rattle.asm_program.specs.Data.{listed_numbers}
 use Rattle.asm_program.specs.Forms.{PartForm, part_form}
 use Rattle.asm_program.specs.Forms.PartForm.{Directs, Instructs}
 use Rattle.asm_program.specs.Layout.{Standing}
+use Rattle.asm_program.specs.Strings.{string_data}
 
 -- what a part writes: instructions, or numbers, or nothing
 pub data PartWriting : Type 0 where
@@ -35,10 +36,11 @@ abbrev pub as_numbers : Result (List Datum) Fault → Result PartWriting Fault
 as_numbers (Err fault) = Err fault
 as_numbers (Ok numbers) = Ok (Numbers numbers)
 
--- An instruction writes what the assembler makes of it, and a directive of numbers these; any other part writes nothing.
+-- An instruction writes what the assembler makes of it, and a directive of numbers or of a string these; any other part writes nothing.
 abbrev pub form_written : Context → PartForm → (left : ℕ) → Result PartWriting Fault
 form_written scope (Instructs form operands) left = as_lines scope.here left (instructions_of scope form left operands)
 form_written scope (Directs (Data size) operands) left = as_numbers (listed_numbers scope size left operands)
+form_written scope (Directs (Ascii is_ended) operands) left = as_numbers (string_data scope.here is_ended left operands)
 form_written scope saying left = Ok Blank
 
 abbrev pub written_said : Context → Result (PartForm × ℕ) Fault → Result PartWriting Fault

@@ -15,6 +15,7 @@ mod output;
 mod parts;
 mod sections;
 mod stop;
+mod strings;
 
 pub use assemble::{Assembly, AssemblyError, ProgramFault, ProgramWrong, assemble_text};
 pub use code::CodeLine;

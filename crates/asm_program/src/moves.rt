@@ -6,6 +6,7 @@ ghost use Rattle.asm_program.specs.Moves.{behind_directive, behind_instruction, 
 
 use crate::directives::Directive;
 use crate::forms::fault;
+use crate::strings::string_size;
 use asm_expressions::{Fault, Scope, Wrong, value_of};
 use asm_instructions::count_of;
 use asm_mnemonics::OperandForm;
@@ -35,6 +36,10 @@ pub(crate) fn behind_directive(
 {
     match directive {
         Directive::Data(size) => { moved_by(scope.here, size, how_many_numbers(operands), left) }
+        Directive::Ascii(is_ended) => {
+            let size = string_size(is_ended, left, operands)?;
+            moved_by(scope.here, 1, size, left)
+        }
         Directive::Space => {
             let size = value_of(scope, operands)?;
             moved_by(scope.here, 1, size, left)

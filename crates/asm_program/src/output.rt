@@ -12,6 +12,7 @@ use crate::directives::Directive;
 use crate::forms::{Form, read_form};
 use crate::layout::Statement;
 use crate::stop::Stop;
+use crate::strings::add_string;
 use asm_expressions::{Scope, Symbol};
 use asm_instructions::instructions_of;
 use asm_mnemonics::OperandForm;
@@ -101,6 +102,9 @@ impl Output {
     {
         match directive {
             Directive::Data(size) => add_numbers(&mut self.data, scope, size, left, operands),
+            Directive::Ascii(is_ended) => {
+                add_string(&mut self.data, scope.here, is_ended, left, operands)
+            }
             _ => Ok(()),
         }
     }
