@@ -1,4 +1,4 @@
-use Rattle.std.proofs.Common.{◌≡◌, ◌<◌, List, length, sym, ap, ◌∙◌, arith, inl, inr, rules, Option, Some, ℕ}
+use Rattle.std.proofs.Common.{◌≡◌, ◌<◌, List, length, sym, ap, ◌∙◌, inl, inr, rules, Option, Some, ℕ}
 use Rattle.std.specs.Prelude.{◌⊎◌}
 use Rattle.asm_program.specs.Inside.Passes.{with_before}
 use Rattle.asm_program.specs.Strings.{placed_or, string_bytes, tail_of}
@@ -17,7 +17,7 @@ bytes-preserved c =
 pub returns-else-is_ended-clause-added : goal.returns-else-is_ended-clause-added
 returns-else-is_ended-clause-added c =
     let over : (c.bytes.most ≡ 0) ⊎ (length c.bytes.rest.now ≡ 0) = elim c.bytes-test.branch [
-      then-bytes-test+else-not-is_empty w ↦ inr (search rules)
+      | then-bytes-test+else-not-is_empty w ↦ inr (search rules)
       | else-bytes-test w ↦ inl (search rules)
     ] in
     sym c.bytes.invariant
