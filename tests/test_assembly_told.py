@@ -35,6 +35,7 @@ COLUMNS = (
     ("never 1 load page -> valeu 1", 25, "unknown word: 'valeu'"), ("never 1 load page -> value 1 after 0 stroe page", 41, "unknown word: 'stroe'"), ("before 1 load page, 0 stroe page", 26, "unknown word: 'stroe'"),
     ("before 1 load page", 22, "no comma"), ("before 1 load page,", 23, "too few or too many words"), ("never 1 load page ->", 24, "too few or too many words"), ("some 1 load page -> value page page", 35, "too few or too many words: 'page'"),
     ("before 1 load page  ,  0 store pgae", 35, "not a number: 'pgae'"), ("never 1 load page -> value page after", 41, "too few or too many words"), ("nevr 1 load page", 4, "unknown condition: 'nevr'"),
+    ("before 1 load page -> , 0 store", 26, "too few or too many words: ','"), ("before 1 store page, , 0 store", 25, "not a number: ','"),
 )  # fmt: skip
 # What hart 0 does, the operation that a condition asks of it with another number, and what it is told to do instead.
 INSTEAD = (
