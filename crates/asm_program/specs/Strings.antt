@@ -67,13 +67,13 @@ string_bytes tail text = bytes_in tail (length text) text
 
 -- ---- directives of strings
 
-abbrev pub text_of : Lexeme → Option (List ℕ)
-text_of (Text text) = Some text
-text_of lexeme = None
+abbrev pub quoted_text : Lexeme → Option (List ℕ)
+quoted_text (Text text) = Some text
+quoted_text lexeme = None
 
 -- one string, and nothing else
 abbrev pub only_text : List TokenSpot → Option (List ℕ)
-only_text (only ∷ []) = text_of only.lexeme
+only_text (only ∷ []) = quoted_text only.lexeme
 only_text tokens = None
 
 -- a 0 behind a string's bytes, or none
