@@ -86,7 +86,7 @@ class MarksOfAllOrders(Test):
     def test_marked_orders__what_only_records_tell(self):
         """`explore` judges no condition on what is missed, unfirm or unlenient, though it would fail in each order."""
         for text, _ in PROGRAMS:
-            for it in ("never missed", "some 2 load -> missed", "firm", "lenient", "never 1 load -> unfirm", "some _ -> unlenient", "never 0 poll after _ -> unfirm", "maybe before _ -> unlenient, 1 load"):
+            for it in ("never missed", "some 0 load -> missed", "firm", "lenient", "never 0 load -> unfirm", "some _ -> unlenient", "never 0 poll after _ -> unfirm", "maybe before _ -> unlenient, 0 load"):
                 status, found, lines = in_way(self.room, EXPLORE, f"#! {it}\n{text}")
                 must(f"{it}: {lines}", status == 8 and found == [f"not ok line 1: {it}: not judged: only records tell what is missed, unfirm or unlenient: use test"] and not any("record:" in line for line in lines))
 
