@@ -12,8 +12,8 @@ from .any_tlb import Marker, fences_of, given, result_of
 UNFIRM, UNLENIENT = "unfirm", "unlenient"
 
 # What a hart may still see. Of each kind of walk (whether it meets G; else its ASID): the satps by which it may begin; by physical
-# addresses the words that are pointers to it; and, for each virtual address, those at which it may end, and those at which it may though
-# a pointer has stood there since, above the lowest level.
+# addresses the words that are pointers to it; and, for each page of each level that has an address, those at which a walk for the page may
+# end at this level, and those at which it may though a pointer has stood there since, above the lowest level.
 Seen = namedtuple("Seen", "satps pointers ends turned")
 
 
@@ -25,13 +25,25 @@ def orders_pointers(fences, met, asid):
     return any(it is not None and it[0] is None and is_of(it, met, asid) for it in fences)
 
 
-def orders_ends(fences, va, met, asid):
-    page = va & ~0xFFF
-    return any(it is not None and (it[0] is None or max(page, it[0][0]) < min(page + 4096, it[0][1])) and is_of(it, met, asid) for it in fences)
+def orders_ends(fences, page, met, asid):
+    """Whether a fence orders the entries, leaves or invalid ones, that map this page as a whole: it has an address of the page."""
+    first, end = page
+    return any(it is not None and (it[0] is None or max(first, it[0][0]) < min(end, it[0][1])) and is_of(it, met, asid) for it in fences)
+
+
+def page_of(va, level):
+    """The page that an entry of this level maps, by its first address and its end."""
+    size = 4096 << 9 * level
+    return va - va % size, va - va % size + size
 
 
 def is_pointer(word):
     return word & 0xDF == 1 and not word >> 54
+
+
+def meets_g(word):
+    """Whether a walk that reads this word meets G. Where V is 0, the other bits are software's."""
+    return word & 0x21 == 0x21
 
 
 def asid_of(satp):
@@ -43,6 +55,7 @@ class WalkMarker(Marker):
 
     def __init__(self, ops, board):
         super().__init__(ops, board)
+        self.pages = sorted({page_of(va, level) for va in self.places for level in range((board.width - 12) // 9)})
         self.kinds = [(True, 0)] + [(False, it) for it in sorted({asid_of(satp) & board.asids for satp in self.satps})]
 
     # ---- what a step leaves
@@ -68,12 +81,12 @@ class WalkMarker(Marker):
             stops = old is None or orders_pointers(fences, *kind)
             for pa in places:
                 pointers[kind, pa] = frozenset([now[pa]]) | (frozenset() if stops else was(old.pointers, kind, pa))
-            for va in self.places:
-                hides = old is None or orders_ends(fences, va, *kind)
+            for page in self.pages:
+                hides = old is None or orders_ends(fences, page, *kind)
                 for pa in places:
-                    ends[(kind, va), pa] = frozenset([now[pa]]) | (frozenset() if hides else was(old.ends, (kind, va), pa))
-                    by_now = was(old.ends, (kind, va), pa) if old is not None and is_pointer(now[pa]) else frozenset()
-                    turned[(kind, va), pa] = frozenset() if stops else old.turned.get(((kind, va), pa), frozenset()) | by_now
+                    ends[(kind, page), pa] = frozenset([now[pa]]) | (frozenset() if hides else was(old.ends, (kind, page), pa))
+                    by_now = was(old.ends, (kind, page), pa) if old is not None and is_pointer(now[pa]) else frozenset()
+                    turned[(kind, page), pa] = frozenset() if stops else old.turned.get(((kind, page), pa), frozenset()) | by_now
         return Seen(satps, pointers, ends, turned)
 
     # ---- what walks give
@@ -97,14 +110,15 @@ class WalkMarker(Marker):
                 yield "fault", board_model.ACCESS_FAULT[kind]
             return
         alone = frozenset([board.ram.get(at, 0)])
-        ends = seen.ends.get(((walks, va), at), alone)
+        page = page_of(va, level)
+        ends = seen.ends.get(((walks, page), at), alone)
         if level:
-            ends = ends | seen.turned.get(((walks, va), at), frozenset())
+            ends = ends | seen.turned.get(((walks, page), at), frozenset())
             for word in seen.pointers.get((walks, at), alone):
                 if is_pointer(word):
-                    yield from self.walk(seen, board, walks, kind, va, (word >> 10 & (1 << 44) - 1) << 12, is_global or bool(word & 0x20), level - 1)
+                    yield from self.walk(seen, board, walks, kind, va, (word >> 10 & (1 << 44) - 1) << 12, is_global or meets_g(word), level - 1)
         for word in ends:
-            if not (level and is_pointer(word)) and walks[0] == (is_global or bool(word & 0x20)):
+            if not (level and is_pointer(word)) and walks[0] == (is_global or meets_g(word)):
                 yield self.end(word, kind, va, level)
 
     def end(self, word, kind, va, level):
