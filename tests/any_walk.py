@@ -167,24 +167,44 @@ def marks_of_schedule(text):
     return any_tlb.marks_of_schedule(text, make=WalkMarker)
 
 
-def change_of(text, place, mark):
-    """The last step of a schedule such that the access in a place has the mark, even if nothing is known of what was before that step;
-    and whether the access is unsteady, too. Places count accepted steps."""
-    first, *rest = filter(None, map(board_model.words_of, text.split("\n")))
-    board, steps, boards = board_model.board_of(first), [*map(board_model.step_of, rest)], []
-    marker, taken = WalkMarker([op for _, op in steps], board), []
-    for actor, op in steps:
-        before, board = board, board.copy()
-        answer = board.step(actor, op)
-        if answer[0] != "refused":
-            boards.append(before)
-            taken.append((actor, op, answer))
-    boards.append(board)
+class Told:
+    """The accepted steps of a schedule, and what walks may see of them. Places count accepted steps."""
 
-    def marks_from(first):
-        watch = marker.first(boards[first])
+    def __init__(self, text):
+        first, *rest = filter(None, map(board_model.words_of, text.split("\n")))
+        board, steps, self.boards, self.taken = board_model.board_of(first), [*map(board_model.step_of, rest)], [], []
+        self.marker = WalkMarker([op for _, op in steps], board)
+        for actor, op in steps:
+            before, board = board, board.copy()
+            answer = board.step(actor, op)
+            if answer[0] != "refused":
+                self.boards.append(before)
+                self.taken.append((actor, op, answer))
+        self.boards.append(board)
+
+    def marks(self, first, place, fence=None):
+        """The marks of the access in a place, if nothing is known of what was before the first step, and if its hart also fences behind a
+        step: `fence` has the step's place, and the address and the ASID, or None."""
+        watch, hart = self.marker.first(self.boards[first]), self.taken[place][0]
         for at in range(first, place):
-            watch = marker.after(watch, boards[at], boards[at + 1], *taken[at])
-        return marker.marks(watch, boards[place], boards[place + 1], *taken[place][:2])
+            watch = self.marker.after(watch, self.boards[at], self.boards[at + 1], *self.taken[at])
+            if fence and fence[0] == at:
+                watch = self.marker.after(watch, self.boards[at + 1], self.boards[at + 1], hart, ("sfence", *fence[1:]), ("done",))
+        return self.marker.marks(watch, self.boards[place], self.boards[place + 1], *self.taken[place][:2])
 
-    return next(at for at in range(place - 1, -1, -1) if mark in marks_from(at)), any_tlb.UNSTEADY in marks_from(0)
+    def change(self, place, mark):
+        """The last step such that the access in a place has the mark, even if nothing is known of what was before that step."""
+        return next(at for at in range(place - 1, -1, -1) if mark in self.marks(at, place))
+
+    def fences(self, first, place):
+        """The fences that the hart of the access applied behind a step and before the access: each with whether it has no address, and its ASID."""
+        hart, va = self.taken[place][0], access_of(self.taken[place][1])[1]
+        for at in range(first + 1, place):
+            for h, fence in fences_of(self.boards[at], *self.taken[at]):
+                if h == hart and fence and (fence[0] is None or orders_ends([(fence[0], None)], page_of(va, 0), True, 0)):
+                    yield fence[0] is None, fence[1]
+
+    def called(self, at):
+        """The fence that a call asks for: whether it has no address, and its ASID."""
+        span, asid = any_tlb.call_of(self.boards[at], *self.taken[at][1:])[1]
+        return span is None, asid
