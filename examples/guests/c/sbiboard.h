@@ -17,7 +17,7 @@ typedef unsigned long u64;
     SBI_LINE(".board " #harts ", " #pages ", " #limit ", 0, boot, 0"); \
     SBI_LINE(".org 0x80000000")
 
-/* A condition, as in `CONDITION("never 1 load 0x1000 -> value 0x33")`. */
+/* A condition, as in `CONDITION("never 1 load 0x1000 -> value 0x33");`. */
 #define CONDITION(text) SBI_LINE("#! " text)
 
 /* Where harts begin: `NAME` is the address; the body that follows gets the hart's id and the opaque value, on a stack of its own. */
