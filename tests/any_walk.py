@@ -12,8 +12,8 @@ from .any_tlb import Marker, fences_of, given, result_of
 UNFIRM, UNLENIENT = "unfirm", "unlenient"
 
 # What a hart may still see. Of each kind of walk (whether it meets G; else its ASID): the satps by which it may begin; by physical
-# addresses the words that are pointers to it; and, for each virtual address, those at which it may end, and those at which it may though
-# a pointer has stood there since, above the lowest level.
+# addresses the words that are pointers to it; and, for each page of each level that has an address, those at which a walk for the page may
+# end at this level, and those at which it may though a pointer has stood there since, above the lowest level.
 Seen = namedtuple("Seen", "satps pointers ends turned")
 
 
@@ -25,13 +25,25 @@ def orders_pointers(fences, met, asid):
     return any(it is not None and it[0] is None and is_of(it, met, asid) for it in fences)
 
 
-def orders_ends(fences, va, met, asid):
-    page = va & ~0xFFF
-    return any(it is not None and (it[0] is None or max(page, it[0][0]) < min(page + 4096, it[0][1])) and is_of(it, met, asid) for it in fences)
+def orders_ends(fences, page, met, asid):
+    """Whether a fence orders the entries, leaves or invalid ones, that map this page as a whole: it has an address of the page."""
+    first, end = page
+    return any(it is not None and (it[0] is None or max(first, it[0][0]) < min(end, it[0][1])) and is_of(it, met, asid) for it in fences)
+
+
+def page_of(va, level):
+    """The page that an entry of this level maps, by its first address and its end."""
+    size = 4096 << 9 * level
+    return va - va % size, va - va % size + size
 
 
 def is_pointer(word):
     return word & 0xDF == 1 and not word >> 54
+
+
+def meets_g(word):
+    """Whether a walk that reads this word meets G. Where V is 0, the other bits are software's."""
+    return word & 0x21 == 0x21
 
 
 def asid_of(satp):
@@ -43,6 +55,7 @@ class WalkMarker(Marker):
 
     def __init__(self, ops, board):
         super().__init__(ops, board)
+        self.pages = sorted({page_of(va, level) for va in self.places for level in range((board.width - 12) // 9)})
         self.kinds = [(True, 0)] + [(False, it) for it in sorted({asid_of(satp) & board.asids for satp in self.satps})]
 
     # ---- what a step leaves
@@ -68,12 +81,12 @@ class WalkMarker(Marker):
             stops = old is None or orders_pointers(fences, *kind)
             for pa in places:
                 pointers[kind, pa] = frozenset([now[pa]]) | (frozenset() if stops else was(old.pointers, kind, pa))
-            for va in self.places:
-                hides = old is None or orders_ends(fences, va, *kind)
+            for page in self.pages:
+                hides = old is None or orders_ends(fences, page, *kind)
                 for pa in places:
-                    ends[(kind, va), pa] = frozenset([now[pa]]) | (frozenset() if hides else was(old.ends, (kind, va), pa))
-                    by_now = was(old.ends, (kind, va), pa) if old is not None and is_pointer(now[pa]) else frozenset()
-                    turned[(kind, va), pa] = frozenset() if stops else old.turned.get(((kind, va), pa), frozenset()) | by_now
+                    ends[(kind, page), pa] = frozenset([now[pa]]) | (frozenset() if hides else was(old.ends, (kind, page), pa))
+                    by_now = was(old.ends, (kind, page), pa) if old is not None and is_pointer(now[pa]) else frozenset()
+                    turned[(kind, page), pa] = frozenset() if stops else old.turned.get(((kind, page), pa), frozenset()) | by_now
         return Seen(satps, pointers, ends, turned)
 
     # ---- what walks give
@@ -97,14 +110,15 @@ class WalkMarker(Marker):
                 yield "fault", board_model.ACCESS_FAULT[kind]
             return
         alone = frozenset([board.ram.get(at, 0)])
-        ends = seen.ends.get(((walks, va), at), alone)
+        page = page_of(va, level)
+        ends = seen.ends.get(((walks, page), at), alone)
         if level:
-            ends = ends | seen.turned.get(((walks, va), at), frozenset())
+            ends = ends | seen.turned.get(((walks, page), at), frozenset())
             for word in seen.pointers.get((walks, at), alone):
                 if is_pointer(word):
-                    yield from self.walk(seen, board, walks, kind, va, (word >> 10 & (1 << 44) - 1) << 12, is_global or bool(word & 0x20), level - 1)
+                    yield from self.walk(seen, board, walks, kind, va, (word >> 10 & (1 << 44) - 1) << 12, is_global or meets_g(word), level - 1)
         for word in ends:
-            if not (level and is_pointer(word)) and walks[0] == (is_global or bool(word & 0x20)):
+            if not (level and is_pointer(word)) and walks[0] == (is_global or meets_g(word)):
                 yield self.end(word, kind, va, level)
 
     def end(self, word, kind, va, level):
@@ -153,24 +167,44 @@ def marks_of_schedule(text):
     return any_tlb.marks_of_schedule(text, make=WalkMarker)
 
 
-def change_of(text, place, mark):
-    """The last step of a schedule such that the access in a place has the mark, even if nothing is known of what was before that step;
-    and whether the access is unsteady, too. Places count accepted steps."""
-    first, *rest = filter(None, map(board_model.words_of, text.split("\n")))
-    board, steps, boards = board_model.board_of(first), [*map(board_model.step_of, rest)], []
-    marker, taken = WalkMarker([op for _, op in steps], board), []
-    for actor, op in steps:
-        before, board = board, board.copy()
-        answer = board.step(actor, op)
-        if answer[0] != "refused":
-            boards.append(before)
-            taken.append((actor, op, answer))
-    boards.append(board)
+class Told:
+    """The accepted steps of a schedule, and what walks may see of them. Places count accepted steps."""
 
-    def marks_from(first):
-        watch = marker.first(boards[first])
+    def __init__(self, text):
+        first, *rest = filter(None, map(board_model.words_of, text.split("\n")))
+        board, steps, self.boards, self.taken = board_model.board_of(first), [*map(board_model.step_of, rest)], [], []
+        self.marker = WalkMarker([op for _, op in steps], board)
+        for actor, op in steps:
+            before, board = board, board.copy()
+            answer = board.step(actor, op)
+            if answer[0] != "refused":
+                self.boards.append(before)
+                self.taken.append((actor, op, answer))
+        self.boards.append(board)
+
+    def marks(self, first, place, fence=None):
+        """The marks of the access in a place, if nothing is known of what was before the first step, and if its hart also fences behind a
+        step: `fence` has the step's place, and the address and the ASID, or None."""
+        watch, hart = self.marker.first(self.boards[first]), self.taken[place][0]
         for at in range(first, place):
-            watch = marker.after(watch, boards[at], boards[at + 1], *taken[at])
-        return marker.marks(watch, boards[place], boards[place + 1], *taken[place][:2])
+            watch = self.marker.after(watch, self.boards[at], self.boards[at + 1], *self.taken[at])
+            if fence and fence[0] == at:
+                watch = self.marker.after(watch, self.boards[at + 1], self.boards[at + 1], hart, ("sfence", *fence[1:]), ("done",))
+        return self.marker.marks(watch, self.boards[place], self.boards[place + 1], *self.taken[place][:2])
 
-    return next(at for at in range(place - 1, -1, -1) if mark in marks_from(at)), any_tlb.UNSTEADY in marks_from(0)
+    def change(self, place, mark):
+        """The last step such that the access in a place has the mark, even if nothing is known of what was before that step."""
+        return next(at for at in range(place - 1, -1, -1) if mark in self.marks(at, place))
+
+    def fences(self, first, place):
+        """The fences that the hart of the access applied behind a step and before the access: each with whether it has no address, and its ASID."""
+        hart, va = self.taken[place][0], access_of(self.taken[place][1])[1]
+        for at in range(first + 1, place):
+            for h, fence in fences_of(self.boards[at], *self.taken[at]):
+                if h == hart and fence and (fence[0] is None or orders_ends([(fence[0], None)], page_of(va, 0), True, 0)):
+                    yield fence[0] is None, fence[1]
+
+    def called(self, at):
+        """The fence that a call asks for: whether it has no address, and its ASID."""
+        span, asid = any_tlb.call_of(self.boards[at], *self.taken[at][1:])[1]
+        return span is None, asid

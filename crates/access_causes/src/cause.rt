@@ -10,6 +10,8 @@ pub enum Asks {
     Firm,
     /// Why it isn't lenient, though it is steady.
     Lenient,
+    /// Why it isn't lenient, nor steady.
+    LenientOrHeld,
 }
 
 /// An access of a record, and what is asked of it.

@@ -13,12 +13,14 @@ use tlb_watch::HartAddress;
 /// A fence of a record.
 #[derive(Drop)]
 pub(crate) struct Fenced {
-    place: usize,
+    pub(crate) place: usize,
     /// The hart that made it, or asked for it.
     by: u64,
-    flush: Flush,
+    pub(crate) flush: Flush,
     /// The harts that are fenced.
     harts: HartSet,
+    /// Those that have applied it.
+    applied: HartSet,
     /// It is a remote fence, whose call waits.
     is_call: bool,
 }
@@ -53,6 +55,7 @@ impl Fenced {
             by,
             flush: seen.flush_at(by)?,
             harts,
+            applied: harts,
             is_call: false,
         })
     }
@@ -63,14 +66,17 @@ impl Fenced {
     {
         let config = board.config();
         let mut harts = board.outstanding(by).unwrap_or(HartSet::new());
+        let mut applied = HartSet::new();
         if seen.flush_at(by).is_some() {
             harts.insert(by);
+            applied.insert(by);
         }
         Fenced {
             place: seen.place,
             by,
             flush: flush_of(config, call),
             harts,
+            applied,
             is_call: true,
         }
     }
@@ -80,26 +86,59 @@ impl Fenced {
         hart < 128 && self.harts.contains(hart)
     }
 
+    /// Whether a call asked for it that covers an address, and a hart, which may have been asked, hasn't applied it.
+    pub(crate) fn is_missing(&self, at: HartAddress) -> bool {
+        let has_applied = at.hart < 128 && self.applied.contains(at.hart);
+        let covers = match self.flush {
+            Flush::Entries(fence) => is_of_page(fence.range, at.address),
+            Flush::Words => false,
+        };
+        self.is_call && !has_applied && covers
+    }
+
     /// Whether the fence covers what a hart holds for an address (Privileged 4.2.1; Zifencei).
     fn ends(&self, held: &Held, address: u64) -> bool {
         match (self.flush, held) {
             (Flush::Entries(fence), Held::Entry(entry)) => {
                 is_of_page(fence.range, address) && is_of_space(fence.asid, entry)
             }
-            (Flush::Entries(fence), Held::Walked(walked)) => ends_walked(fence, walked, address),
+            (Flush::Entries(fence), Held::Walked(walked)) => {
+                is_of_kinds(fence, Kinds::of(walked), address)
+            }
             (Flush::Words, Held::Word(_)) => true,
             _ => false,
         }
     }
 }
 
-/// Whether a fence covers what walks for an address may see (Privileged 4.2.1).
-fn ends_walked(fence: Fence, walked: &Walked, address: u64) -> bool {
+/// The kinds of fences that end what walks may see.
+#[derive(Clone, Copy)]
+pub(crate) struct Kinds {
+    /// Those of this ASID, and those without one.
+    pub(crate) asid: u16,
+    /// Only those without an address.
+    pub(crate) is_whole: bool,
+    /// Only those without an ASID.
+    pub(crate) is_global: bool,
+}
+
+impl Kinds {
+    fn of(walked: &Walked) -> Kinds {
+        Kinds {
+            asid: walked.asid,
+            is_whole: walked.is_whole,
+            is_global: walked.is_global,
+        }
+    }
+}
+
+/// Whether a fence that covers an address is of these kinds (Privileged 4.2.1).
+pub(crate) fn is_of_kinds(fence: Fence, kinds: Kinds, address: u64) -> bool {
     let is_of_space = match fence.asid {
         None => true,
-        Some(asid) => !walked.is_global && asid == walked.asid,
+        Some(asid) => !kinds.is_global && asid == kinds.asid,
     };
-    let is_there = fence.range.is_none() || (!walked.is_whole && is_of_page(fence.range, address));
+    let is_there = fence.range.is_none() || (!kinds.is_whole && is_of_page(fence.range, address));
     is_of_space && is_there
 }
 
@@ -138,6 +177,19 @@ fn is_of_page(range: Option<Range>, va: u64) -> bool {
     }
 }
 
+/// A hart has served the fence of a caller's last call.
+pub(crate) fn see_served(fences: &mut [Fenced], from: u64, hart: u64) {
+    if hart >= 128 {
+        return;
+    }
+    for fence in fences.iter_mut().rev() {
+        if fence.is_call && fence.by == from {
+            fence.applied.insert(hart);
+            return;
+        }
+    }
+}
+
 /// The fence that would have ended what an access used or may use, by the record's fences so far, on the board before the access.
 pub(crate) fn fencing_of(
     board: &Board,
@@ -145,7 +197,18 @@ pub(crate) fn fencing_of(
     finding: &Finding,
     fences: &[Fenced],
 ) -> Fencing {
-    match first_call(at, finding, fences) {
+    fencing_by(board, at, finding, first_call(at, finding, fences), fences)
+}
+
+/// The same, if this is the call, or none.
+pub(crate) fn fencing_by(
+    board: &Board,
+    at: HartAddress,
+    finding: &Finding,
+    call: Option<&Fenced>,
+    fences: &[Fenced],
+) -> Fencing {
+    match call {
         Some(call) => Fencing::Asked {
             place: call.place,
             harts: call.harts,
@@ -159,7 +222,7 @@ pub(crate) fn fencing_of(
 }
 
 /// The fences up to a place, and those behind it. Their places ascend.
-fn parted(fences: &[Fenced], place: usize) -> (&[Fenced], &[Fenced]) {
+pub(crate) fn parted(fences: &[Fenced], place: usize) -> (&[Fenced], &[Fenced]) {
     fences.split_at(fences.partition_point(|fence| fence.place <= place))
 }
 

@@ -3,11 +3,11 @@ ghost use Rattle.std.specs.Prelude.{IfSome};
 ghost use Rattle.board_terms.specs.Limits.{IsGood};
 
 use crate::cause::{AccessCause, Asked, Fencing};
-use crate::fences::{Fenced, next_behind};
+use crate::fences::{Fenced, next_behind, see_served};
 use crate::look::Look;
 use crate::seen::Seen;
 use crate::sight::Sight;
-use board_core::{Board, Config, Event};
+use board_core::{Actor, Board, Config, Event, Op};
 use std::alloc::{AllocError, Global};
 use tlb_watch::is_quiet;
 
@@ -100,12 +100,27 @@ impl<'a> Course<'a> {
             return Ok(());
         }
         let seen = Seen::of(&self.board, place, event);
+        if let Some((from, hart)) = served_by(&self.board, event) {
+            see_served(&mut self.fences, from, hart);
+        }
         take(&mut self.board, event);
         if let Some(fence) = Fenced::of(&self.board, &seen, event) {
             self.fences.push(fence)?;
         }
         show(alloc, &self.board, &seen, looks)
     }
+}
+
+/// The hart whose fence an event serves, and the hart that serves it, on the board as it is before it.
+fn served_by(board: &Board, event: &Event) -> Option<(u64, u64)> {
+    let Actor::Hart(hart) = event.actor() else {
+        return None;
+    };
+    if hart >= board.config().harts || event.op() != Op::Serve {
+        return None;
+    }
+    let request = board.waiting(hart).next()?;
+    Some((request.from, hart))
 }
 
 /// The looks for these accesses, on a board before its first event.

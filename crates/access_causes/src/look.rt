@@ -1,5 +1,5 @@
 //! An access of a record, and what is followed for it up to its place.
-use crate::cause::{AccessCause, Asks, Finding};
+use crate::cause::{AccessCause, Asks, Fencing, Finding};
 use crate::entry_look::EntryLook;
 use crate::fences::{Fenced, fencing_of};
 use crate::possible_look::PossibleLook;
@@ -22,6 +22,8 @@ enum Followed {
     Possible(PossibleLook, Option<WordPast>),
     /// What walks for it may see.
     Walks(WalkLook),
+    /// One of these entries or words or, if there is none, what walks for it may see.
+    Either(PossibleLook, Option<WordPast>, WalkLook),
 }
 
 impl Followed {
@@ -29,6 +31,7 @@ impl Followed {
     fn new(alloc: Global, board: &Board, sight: &Sight, asks: Asks) -> Followed {
         match asks {
             Asks::Held => Followed::held(alloc, board, sight),
+            Asks::LenientOrHeld => Followed::lenient_or_held(alloc, board, sight),
             Asks::Firm => Followed::Walks(WalkLook::new(alloc, false)),
             Asks::Lenient => Followed::Walks(WalkLook::new(alloc, true)),
         }
@@ -43,12 +46,37 @@ impl Followed {
                 by_result,
             } => Followed::Entry(EntryLook::new(entry, filled, by_result)),
             Used::Word { word, filled } => Followed::Word(WordLook::new(word, filled)),
-            Used::Nothing { fetched } => {
-                let word = fetched.map(|pa| WordPast::new(board, sight.at.hart, pa));
-                Followed::Possible(PossibleLook::new(alloc), word)
-            }
+            Used::Nothing => Followed::Possible(
+                PossibleLook::new(alloc, false),
+                word_past(board, sight),
+            ),
         }
     }
+
+    /// The same for one that isn't lenient: of entries that only fault where the page tables give a leaf none counts.
+    fn lenient_or_held(alloc: Global, board: &Board, sight: &Sight) -> Followed {
+        match sight.used {
+            Used::Entry {
+                entry,
+                filled,
+                by_result: true,
+            } if !sight.only_faults(&entry) => {
+                Followed::Entry(EntryLook::new(entry, filled, true))
+            }
+            Used::Word { word, filled } => Followed::Word(WordLook::new(word, filled)),
+            _ => Followed::Either(
+                PossibleLook::new(alloc, true),
+                word_past(board, sight),
+                WalkLook::new(alloc, true),
+            ),
+        }
+    }
+}
+
+/// The words that a fetch may get, on a board before its first event.
+fn word_past(board: &Board, sight: &Sight) -> Option<WordPast> {
+    let pa = sight.fetched?;
+    Some(WordPast::new(board, sight.at.hart, pa))
 }
 
 /// An access, and what is followed for it.
@@ -101,6 +129,13 @@ impl Look {
                 look.happened(alloc, sight, board, seen)
             }
             Followed::Walks(look) => look.happened(sight, board, seen),
+            Followed::Either(look, word, walks) => {
+                if let Some(word) = word {
+                    word.happened(board, seen);
+                }
+                look.happened(alloc, sight, board, seen)?;
+                walks.happened(sight, board, seen)
+            }
         }
     }
 
@@ -115,11 +150,10 @@ impl Look {
         board: &Board,
         fences: &[Fenced],
     ) -> Result<Option<AccessCause>, AllocError> {
-        let Some(finding) = self.finding(alloc, board)? else {
+        let Some((finding, fencing)) = self.found(alloc, board, fences)? else {
             return Ok(None);
         };
         let HartAddress { hart, address } = self.sight.at;
-        let fencing = fencing_of(board, self.sight.at, &finding, fences);
         let Finding {
             held,
             origin,
@@ -136,18 +170,37 @@ impl Look {
         }))
     }
 
-    /// What the access used, or may use.
-    fn finding(&self, alloc: Global, board: &Board) -> Result<Option<Finding>, AllocError> {
+    /// What the access used, or may use, and the fence that would have ended it.
+    fn found(
+        &self,
+        alloc: Global,
+        board: &Board,
+        fences: &[Fenced],
+    ) -> Result<Option<(Finding, Fencing)>, AllocError> {
+        if let Some(finding) = self.held(alloc, board)? {
+            let fencing = fencing_of(board, self.sight.at, &finding, fences);
+            return Ok(Some((finding, fencing)));
+        }
+        match &self.followed {
+            Followed::Walks(look) | Followed::Either(_, _, look) => {
+                look.found(alloc, &self.sight, board, fences)
+            }
+            _ => Ok(None),
+        }
+    }
+
+    /// The entry or the word that the access used, or may use.
+    fn held(&self, alloc: Global, board: &Board) -> Result<Option<Finding>, AllocError> {
         match &self.followed {
             Followed::Entry(look) => Ok(look.finding()),
             Followed::Word(look) => Ok(look.finding()),
-            Followed::Possible(look, word) => {
+            Followed::Possible(look, word) | Followed::Either(look, word, _) => {
                 match look.finding(alloc, &self.sight, board.view().ram())? {
                     Some(finding) => Ok(Some(finding)),
                     None => Ok(word.and_then(|word| word.finding())),
                 }
             }
-            Followed::Walks(look) => look.finding(alloc, &self.sight, board.view().ram()),
+            Followed::Walks(_) => Ok(None),
         }
     }
 }

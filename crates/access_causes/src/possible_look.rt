@@ -29,15 +29,18 @@ pub(crate) struct PossibleLook {
     /// The satps that the hart had since the last reset, oldest first.
     satps: Vec<Had>,
     runs: Vec<Run>,
+    /// Whether a page fault may come where the page tables give a leaf.
+    may_fault: bool,
 }
 
 impl PossibleLook {
     /// Before the first event, when satp translates nothing.
-    pub(crate) fn new(alloc: Global) -> PossibleLook {
+    pub(crate) fn new(alloc: Global, may_fault: bool) -> PossibleLook {
         PossibleLook {
             walks: Walks::new(alloc),
             satps: Vec::new(alloc),
             runs: Vec::new(alloc),
+            may_fault,
         }
     }
 
@@ -152,7 +155,9 @@ impl PossibleLook {
         }
         let mut found = None;
         for run in self.runs.iter() {
-            if gives_other(sight, &run.entry()) {
+            let entry = run.entry();
+            let may_fault = self.may_fault && sight.only_faults(&entry);
+            if gives_other(sight, &entry) && !may_fault {
                 found = Some(later(found, *run));
             }
         }

@@ -20,6 +20,8 @@ pub(crate) struct Sight {
     /// What the page tables give.
     pub(crate) walked: Result<Leaf, Cause>,
     pub(crate) used: Used,
+    /// Of a fetch the physical address that the page tables give, if they give one.
+    pub(crate) fetched: Option<u64>,
 }
 
 /// What an access used that is stale.
@@ -37,10 +39,8 @@ pub(crate) enum Used {
         word: FetchWord,
         filled: usize,
     },
-    /// Nothing. Of a fetch the physical address that the page tables give, if they give one.
-    Nothing {
-        fetched: Option<u64>,
-    },
+    /// Nothing.
+    Nothing,
 }
 
 impl Sight {
@@ -63,7 +63,16 @@ impl Sight {
             satp: board.view().satp_register(hart),
             walked,
             used: used_by(board, at, access, walked, event),
+            fetched: match access {
+                Access::Fetch => fetched(board, at),
+                _ => None,
+            },
         })
+    }
+
+    /// Whether an entry gives the access a page fault where the page tables give a leaf.
+    pub(crate) fn only_faults(&self, entry: &Entry) -> bool {
+        self.walked.is_ok() && !entry.leaf().allows(self.kind)
     }
 }
 
@@ -84,7 +93,7 @@ fn used_by(
     }
     match access {
         Access::Fetch => used_word(board, at, event),
-        _ => Used::Nothing { fetched: None },
+        _ => Used::Nothing,
     }
 }
 
@@ -150,9 +159,7 @@ fn used_word(board: &Board, at: HartAddress, event: &Event) -> Used
             filled,
         };
     }
-    Used::Nothing {
-        fetched: fetched(board, at),
-    }
+    Used::Nothing
 }
 
 /// The place at which the hart's latest live word of this physical address was filled, if there is one.

@@ -2,7 +2,8 @@
 //! fences since (Privileged 4.2.1, 4.3.2).
 ghost use Rattle.std.specs.Prelude.{◌<◌};
 
-use crate::cause::{Finding, Former, Held, Origin, Walked};
+use crate::cause::{Fencing, Finding, Former, Held, Origin, Walked};
+use crate::fences::{Fenced, Kinds, fencing_by, is_of_kinds, parted};
 use crate::seen::{Seen, Stood};
 use crate::sight::Sight;
 use board_core::{Board, Fence, Flush, Range};
@@ -96,17 +97,20 @@ impl WalkLook {
     }
 
     /// What stood before and gives the access another result than the page tables, if something does, as its cause: of several the
-    /// one that changed last, with which what changed later suffices.
+    /// one that changed last, with which what changed later suffices. And the fence that would have ended it, by the record's fences
+    /// so far, on the board before the access.
     ///
     /// # Errors
     ///
     /// Memory was refused.
-    pub(crate) fn finding(
+    pub(crate) fn found(
         &self,
         alloc: Global,
         sight: &Sight,
-        ram: &Ram,
-    ) -> Result<Option<Finding>, AllocError> {
+        board: &Board,
+        fences: &[Fenced],
+    ) -> Result<Option<(Finding, Fencing)>, AllocError> {
+        let ram = board.view().ram();
         let Some(first) = self.first_needed(alloc, sight, ram)? else {
             return Ok(None);
         };
@@ -117,17 +121,120 @@ impl WalkLook {
         let Some(former) = former_of(change) else {
             return Ok(None);
         };
+        let (_, behind) = parted(fences, place);
+        let call = self.first_call(alloc, sight, ram, first, behind)?;
+        let kinds = match call {
+            Some(call) => self.kinds_at(alloc, sight, ram, first, call)?,
+            None => self.kinds_behind(alloc, sight, ram, first, place)?,
+        };
         let walked = Walked {
             former,
-            asid: sight.satp.asid() as u16,
-            is_whole: !self.fits(alloc, sight, ram, first, Some(of_address(sight)))?,
-            is_global: !self.fits(alloc, sight, ram, first, Some(of_asid(sight)))?,
+            asid: kinds.asid,
+            is_whole: kinds.is_whole,
+            is_global: kinds.is_global,
         };
-        Ok(Some(Finding {
+        let finding = Finding {
             held: Held::Walked(walked),
             origin: Origin::Had(place),
             changed: place,
-        }))
+        };
+        let fencing = fencing_by(board, sight.at, &finding, call, fences);
+        Ok(Some((finding, fencing)))
+    }
+
+    /// The first of these fences that a call asked for and that would have ended what stood before this number, had the hart applied it
+    /// at once. It hasn't applied it.
+    fn first_call<'a>(
+        &self,
+        alloc: Global,
+        sight: &Sight,
+        ram: &Ram,
+        first: usize,
+        fences: &'a [Fenced],
+    ) -> Result<Option<&'a Fenced>, AllocError> {
+        for fence in fences {
+            if fence.is_missing(sight.at)
+                && self.fits(alloc, sight, ram, first, Some((fence.place, fence.flush)))?
+            {
+                return Ok(Some(fence));
+            }
+        }
+        Ok(None)
+    }
+
+    /// The kinds of fences that end it in the place of such a call.
+    fn kinds_at(
+        &self,
+        alloc: Global,
+        sight: &Sight,
+        ram: &Ram,
+        first: usize,
+        call: &Fenced,
+    ) -> Result<Kinds, AllocError> {
+        let mut kinds = kinds_of(sight, false, false);
+        let Flush::Entries(fence) = call.flush else {
+            return Ok(kinds);
+        };
+        if fence.range.is_none() {
+            let of_page = Flush::Entries(Fence {
+                asid: fence.asid,
+                range: Some(page(sight)),
+            });
+            kinds.is_whole = !self.fits(alloc, sight, ram, first, Some((call.place, of_page)))?;
+        }
+        if fence.asid.is_none() {
+            let of_space = Flush::Entries(Fence {
+                asid: Some(kinds.asid),
+                range: fence.range,
+            });
+            kinds.is_global = !self.fits(alloc, sight, ram, first, Some((call.place, of_space)))?;
+        }
+        Ok(kinds)
+    }
+
+    /// The kinds of fences that end it right behind the change in this place, and of which the hart has applied none since.
+    fn kinds_behind(
+        &self,
+        alloc: Global,
+        sight: &Sight,
+        ram: &Ram,
+        first: usize,
+        place: usize,
+    ) -> Result<Kinds, AllocError> {
+        let some = [
+            kinds_of(sight, false, false),
+            kinds_of(sight, false, true),
+            kinds_of(sight, true, false),
+        ];
+        for kinds in &some {
+            if !self.was_fenced(sight, first, *kinds)
+                && self.fits(
+                    alloc,
+                    sight,
+                    ram,
+                    first,
+                    Some((place, weakest(sight, *kinds))),
+                )?
+            {
+                return Ok(*kinds);
+            }
+        }
+        Ok(kinds_of(sight, true, true))
+    }
+
+    /// Whether the hart applied a fence of these kinds behind the change of this number.
+    fn was_fenced(&self, sight: &Sight, first: usize, kinds: Kinds) -> bool {
+        let Some(left) = self.changes.get(first..) else {
+            return false;
+        };
+        for placed in left {
+            if let Change::Fence(Flush::Entries(fence)) = placed.change
+                && is_of_kinds(fence, kinds, sight.at.address)
+            {
+                return true;
+            }
+        }
+        false
     }
 
     /// The number of the last change from which on those of the record give the access another result, if all do.
@@ -156,31 +263,49 @@ impl WalkLook {
         Ok(Some(first))
     }
 
-    /// Whether walks give the access what it must be given, if what changed before this number isn't seen, and this fence is applied
-    /// now.
+    /// Whether walks give the access what it must be given, if what changed before this number isn't seen, and the hart applied this
+    /// fence, too, behind the event in its place.
     fn fits(
         &self,
         alloc: Global,
         sight: &Sight,
         ram: &Ram,
         first: usize,
-        fence: Option<Flush>,
+        fence: Option<(usize, Flush)>,
     ) -> Result<bool, AllocError> {
-        let hart = sight.at.hart;
-        let mut log = WalkLog::new(alloc);
-        if let Some(left) = self.changes.get(first..) {
-            for placed in left {
-                put(&mut log, hart, placed.change)?;
-            }
-        }
-        if let Some(flush) = fence {
-            put(&mut log, hart, Change::Fence(flush))?;
-        }
+        let log = self.log(alloc, sight.at.hart, first, fence)?;
         if self.may_fault {
             log.is_lenient(alloc, sight.at, ram, sight.satp, sight.kind)
         } else {
             log.is_firm(alloc, sight.at, ram, sight.satp, sight.kind)
         }
+    }
+
+    /// The log of the changes from this number on, and of this fence.
+    fn log(
+        &self,
+        alloc: Global,
+        hart: u64,
+        first: usize,
+        fence: Option<(usize, Flush)>,
+    ) -> Result<WalkLog, AllocError> {
+        let mut log = WalkLog::new(alloc);
+        let mut due = fence;
+        if let Some(left) = self.changes.get(first..) {
+            for placed in left {
+                if let Some((place, flush)) = due
+                    && place < placed.place
+                {
+                    put(&mut log, hart, Change::Fence(flush))?;
+                    due = None;
+                }
+                put(&mut log, hart, placed.change)?;
+            }
+        }
+        if let Some((_, flush)) = due {
+            put(&mut log, hart, Change::Fence(flush))?;
+        }
+        Ok(log)
     }
 }
 
@@ -211,21 +336,35 @@ fn former_of(change: Change) -> Option<Former> {
     }
 }
 
-/// A fence of an access's page, of each address space.
-fn of_address(sight: &Sight) -> Flush {
-    Flush::Entries(Fence {
-        asid: None,
-        range: Some(Range {
-            start: sight.at.address / PAGE_BYTES * PAGE_BYTES,
-            size: PAGE_BYTES,
-        }),
-    })
+/// The addresses of an access's page.
+fn page(sight: &Sight) -> Range {
+    Range {
+        start: sight.at.address / PAGE_BYTES * PAGE_BYTES,
+        size: PAGE_BYTES,
+    }
 }
 
-/// A fence of all addresses, of an access's address space.
-fn of_asid(sight: &Sight) -> Flush {
+/// The kinds of fences of an access's address: only those without an address, or only those without an ASID.
+fn kinds_of(sight: &Sight, is_whole: bool, is_global: bool) -> Kinds {
+    Kinds {
+        asid: sight.satp.asid() as u16,
+        is_whole,
+        is_global,
+    }
+}
+
+/// The weakest fence of these kinds.
+fn weakest(sight: &Sight, kinds: Kinds) -> Flush {
     Flush::Entries(Fence {
-        asid: Some(sight.satp.asid() as u16),
-        range: None,
+        asid: if kinds.is_global {
+            None
+        } else {
+            Some(kinds.asid)
+        },
+        range: if kinds.is_whole {
+            None
+        } else {
+            Some(page(sight))
+        },
     })
 }

@@ -1,49 +1,34 @@
 -- After a fence of everything nothing older may be seen.
-use Rattle.std.proofs.Common.{◌≡◌, ℕ, suc, ◌+◌, ◌*◌, ◌≤◌, Bool, true, false, List, [], ◌∷◌, subst, refl, sym, ap, ◌∙◌, arith, Option, Some, None, Result, Err, inl, inr}
-use Rattle.std.specs.Prelude.{◌⊎◌, ◌&&◌, ◌||◌, if◌then◌else◌, is_none}
-use Rattle.std.proofs.lemmas.Bool.{and_parts, both_ways, cases_lt}
-use Rattle.rfence.specs.Applied.{Effect, Nothing, Drops, Empties}
+use Rattle.std.proofs.Common.{◌≡◌, ℕ, suc, ◌+◌, ◌*◌, ◌≤◌, Bool, true, false, List, [], ◌∷◌, subst, refl, sym, ap, ◌∙◌, arith, Option, Result, Err, inl, inr}
+use Rattle.std.specs.Prelude.{◌⊎◌, ◌||◌, if◌then◌else◌}
+use Rattle.std.proofs.lemmas.Bool.{both_ways, cases_lt}
+use Rattle.rfence.specs.Applied.{Effect}
 use Rattle.sv39.specs.declared.cause.Cause.{Cause}
 use Rattle.sv39.specs.declared.cause.Kind.{Kind}
 use Rattle.sv39.specs.declared.page.Leaf.{Leaf}
 use Rattle.sv39.specs.declared.page.Level.{Level}
+use Rattle.sv39.specs.declared.page.Level.TheVariants.{Kilo}
 use Rattle.sv39.specs.Causes.{page_fault}
 use Rattle.sv39.specs.Maps.{found_from, is_some_global, is_some_pointer, maps, outcome, table_of}
 use Rattle.sv39.specs.Pages.{levels_from, part}
 use Rattle.sv39.specs.Paging.{scheme}
 use Rattle.sv39.specs.Satp.{asid_of, is_valid, paging_of, root_address}
 use Rattle.tlb_model.specs.declared.fence.Flush.{Flush}
-use Rattle.tlb_model.specs.declared.fence.Flush.TheVariants.{Words, Entries}
-use Rattle.tlb_model.specs.declared.fence.Range.{Range}
 use Rattle.board_core.specs.Cuts.{IsOpened}
 use Rattle.board_core.specs.History.{Event}
 use Rattle.board_core.specs.Memory.{memory, satp}
 use Rattle.board_core.specs.Opening.{Opening, place_after}
-use Rattle.board_laws.specs.Fresh.{is_of_page}
 use Rattle.board_laws.specs.Places.{IsAtPlace, past_at}
 use Rattle.board_laws.proofs.Places.{at-earlier, length-past_at, past_at-again, within}
 use Rattle.any_tlb.specs.Effects.{MaySee, effect_at}
 use Rattle.any_tlb.specs.Fenced.{AfterFence, CountsSince, IsUnchanged}
 use Rattle.any_tlb.specs.Firm.{AreOneWord, IsFirm}
 use Rattle.any_tlb.specs.FirmFences.{IsOneWay, NothingChanged, WasFullyFenced}
-use Rattle.any_tlb.specs.Mixed.{MaySeeTurned, MaySeeWord, is_of_walk, orders_ends, orders_pointers}
+use Rattle.any_tlb.specs.Mixed.{MaySeeTurned, MaySeeWord, orders_ends, orders_pointers}
 use Rattle.any_tlb.specs.Steady.{phys_of}
-use Rattle.any_tlb.proofs.Fences.{fenced_is_steady}
+use Rattle.any_tlb.proofs.Fences.{fenced_is_steady, pointers-ends}
 use Rattle.any_tlb.proofs.Mixing.{unchanged_ways_are_firm}
 use Rattle.any_tlb.proofs.Sources.{all-of, before-more, kept-more, seen-since}
-
--- what orders pointers orders ends
-pointers-ends : (va : ℕ) (global : Bool) (asid : ℕ) (done : Effect Flush) → orders_pointers global asid done ≡ true → orders_ends va global asid done ≡ true
-pointers-ends va global asid Nothing of = cc
-pointers-ends va global asid (Drops Words) of = cc
-pointers-ends va global asid (Drops (Entries fence)) of =
-    let parts = and_parts (is_none fence.range) (is_of_walk fence.asid global asid) of in
-    by_range fence.range parts.0 parts.1
-  where
-    by_range : (range : Option Range) → is_none range ≡ true → is_of_walk fence.asid global asid ≡ true → (is_of_page range va && is_of_walk fence.asid global asid) ≡ true
-    by_range None none of = of
-    by_range (Some range) none of = cc
-pointers-ends va global asid Empties of = refl
 
 -- ---- what was seen before a fence isn't seen any more
 
@@ -59,20 +44,20 @@ module _ (o : Opening) (past : List Event) (h place : ℕ) (event : Event) (at :
       ]
 
 -- the place of the event at which a pointer came, after which nothing ordered pointers
-record TurnedAt (o : Opening) (past : List Event) (h va : ℕ) (global : Bool) (asid pa : ℕ) (word : Option ℕ) : Type 0 where
+record TurnedAt (o : Opening) (past : List Event) (h va : ℕ) (global : Bool) (asid : ℕ) (level : Level) (pa : ℕ) (word : Option ℕ) : Type 0 where
   turn : ℕ
   since : o.places ≤ turn
   upto : turn ≤ place_after o past
-  sees : MaySeeWord o (past_at o past turn) h (orders_ends va global asid) pa word
+  sees : MaySeeWord o (past_at o past turn) h (orders_ends va level global asid) pa word
   kept : (m : ℕ) (event : Event) → turn ≤ m → IsAtPlace o past m event → orders_pointers global asid (effect_at o (past_at o past m) event h) ≡ false
 
 turned-at : (o : Opening) (past : List Event) (h va : ℕ) (global : Bool) (asid : ℕ) (level : Level) (pa : ℕ) (word : Option ℕ) → MaySeeTurned o past h va global asid level pa word
-    → TurnedAt o past h va global asid pa word
+    → TurnedAt o past h va global asid level pa word
 turned-at o [] h va global asid level pa word turned = absurd turned
 turned-at o (event ∷ past) h va global asid level pa word turned = by_place turned.0 (λ before. turned-at o past h va global asid level pa word before)
   where
-    by_place : MaySeeTurned o past h va global asid level pa word ⊎ (MaySeeWord o past h (orders_ends va global asid) pa word × (is_some_pointer level (memory o (event ∷ past) pa) ≡ true))
-        → (MaySeeTurned o past h va global asid level pa word → TurnedAt o past h va global asid pa word) → TurnedAt o (event ∷ past) h va global asid pa word
+    by_place : MaySeeTurned o past h va global asid level pa word ⊎ (MaySeeWord o past h (orders_ends va level global asid) pa word × (is_some_pointer level (memory o (event ∷ past) pa) ≡ true))
+        → (MaySeeTurned o past h va global asid level pa word → TurnedAt o past h va global asid level pa word) → TurnedAt o (event ∷ past) h va global asid level pa word
     by_place (inl before) rest =
         let t = rest before in
         let upto = t.upto in
@@ -80,22 +65,22 @@ turned-at o (event ∷ past) h va global asid level pa word turned = by_place tu
           turn = t.turn;
           since = t.since;
           upto = omega arith;
-          sees = subst (λ (older : List Event). MaySeeWord o older h (orders_ends va global asid) pa word) (sym (before-more o event past t.turn upto)) t.sees;
+          sees = subst (λ (older : List Event). MaySeeWord o older h (orders_ends va level global asid) pa word) (sym (before-more o event past t.turn upto)) t.sees;
           kept = kept-more o event past h (orders_pointers global asid) t.turn t.kept turned.1;
         }
     by_place (inr now) rest = record {
       turn = place_after o past;
       since = omega arith;
       upto = omega arith;
-      sees = subst (λ (older : List Event). MaySeeWord o older h (orders_ends va global asid) pa word) (sym (before-more o event past (place_after o past) (omega arith) ∙ all-of o past)) now.0;
+      sees = subst (λ (older : List Event). MaySeeWord o older h (orders_ends va level global asid) pa word) (sym (before-more o event past (place_after o past) (omega arith) ∙ all-of o past)) now.0;
       kept = kept-more o event past h (orders_pointers global asid) (place_after o past) (λ m other upto at. absurd (let inside = within o past m other at in omega arith)) turned.1;
     }
 
 -- ---- the rule
 
 module _ (o : Opening) (past : List Event) (h place va : ℕ) (fenced : WasFullyFenced o past h place) (unchanged : NothingChanged o past h (suc place) va) where
-  ends-fence : (global : Bool) (asid : ℕ) → orders_ends va global asid (effect_at o (past_at o past place) fenced.event h) ≡ true
-  ends-fence global asid = pointers-ends va global asid (effect_at o (past_at o past place) fenced.event h) (fenced.fences global asid)
+  ends-fence : (level : Level) (global : Bool) (asid : ℕ) → orders_ends va level global asid (effect_at o (past_at o past place) fenced.event h) ≡ true
+  ends-fence level global asid = pointers-ends va level global asid (effect_at o (past_at o past place) fenced.event h) (fenced.fences global asid)
 
   turned-later : (global : Bool) (asid : ℕ) (level : Level) (pa : ℕ) (word : Option ℕ)
       → ((m : ℕ) → suc place ≤ m → m ≤ place_after o past → memory o (past_at o past m) pa ≡ memory o past pa) → MaySeeTurned o past h va global asid level pa word → word ≡ memory o past pa
@@ -106,8 +91,8 @@ module _ (o : Opening) (past : List Event) (h place va : ℕ) (fenced : WasFully
             let size = length-past_at o past t.turn t.since t.upto in
             let since = fenced.happened.since in
             let at = at-earlier o past t.turn place fenced.event after t.upto fenced.happened in
-            seen-later o (past_at o past t.turn) h place fenced.event at (λ past. memory o past pa) (orders_ends va global asid) word (memory o past pa)
-            (subst (λ (older : List Event). orders_ends va global asid (effect_at o older fenced.event h) ≡ true) (sym (past_at-again o past t.turn place since (omega arith) t.upto)) (ends-fence global asid))
+            seen-later o (past_at o past t.turn) h place fenced.event at (λ past. memory o past pa) (orders_ends va level global asid) word (memory o past pa)
+            (subst (λ (older : List Event). orders_ends va level global asid (effect_at o older fenced.event h) ≡ true) (sym (past_at-again o past t.turn place since (omega arith) t.upto)) (ends-fence level global asid))
             (λ m from upto. ap (λ (older : List Event). memory o older pa) (past_at-again o past t.turn m (omega arith) (omega arith) t.upto) ∙ same m from (let within = t.upto in omega arith)) t.sees
         | inr before ↦
             absurd (both_ways (orders_pointers global asid (effect_at o (past_at o past place) fenced.event h)) (t.kept place fenced.event before fenced.happened) (fenced.fences global asid))
@@ -121,7 +106,7 @@ module _ (o : Opening) (past : List Event) (h place va : ℕ) (fenced : WasFully
           pointers = λ word sees pointer.
               seen-later o past h place fenced.event fenced.happened (λ past. memory o past pa) (orders_pointers met asid) word (memory o past pa) (fenced.fences met asid) way.0 sees;
           ends = λ word sees other. elim sees [
-            | inl sees ↦ seen-later o past h place fenced.event fenced.happened (λ past. memory o past pa) (orders_ends va met asid) word (memory o past pa) (ends-fence met asid) way.0 sees
+            | inl sees ↦ seen-later o past h place fenced.event fenced.happened (λ past. memory o past pa) (orders_ends va level met asid) word (memory o past pa) (ends-fence level met asid) way.0 sees
             | inr turned ↦ turned-later met asid level pa word way.0 turned
           ];
         },
@@ -158,7 +143,7 @@ module _ (o : Opening) (past : List Event) (h place va : ℕ) (fenced : WasFully
   }
 
   clear : (global : Bool) → CountsSince o past h va global (asid_of (satp o past h)) (suc place)
-  clear global = AfterFence place refl (record { event = fenced.event; happened = fenced.happened; fences = ends-fence global (asid_of (satp o past h)) })
+  clear global = AfterFence place refl (record { event = fenced.event; happened = fenced.happened; fences = ends-fence Kilo global (asid_of (satp o past h)) })
 
   pub fully-fenced : IsOpened o → (kind : Kind) → IsFirm o past h va kind
   fully-fenced opened kind = unchanged_ways_are_firm o past h va kind (record {

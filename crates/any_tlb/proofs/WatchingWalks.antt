@@ -25,7 +25,7 @@ use Rattle.board_core.specs.Opening.{Opening}
 use Rattle.board_laws.proofs.Leaves.{matched}
 use Rattle.any_tlb.specs.Effects.{MaySee, effect_at}
 use Rattle.any_tlb.specs.Firm.{IsFirm, IsLenient, IsMapped}
-use Rattle.any_tlb.specs.Mixed.{Kept, MayGive, MaySeeEnd, MaySeeTurned, MaySeeWord, Mixed, MixedFrom, MixedWalk, Now, orders_ends, orders_pointers}
+use Rattle.any_tlb.specs.Mixed.{Kept, MayGive, MaySeeEnd, MaySeeTurned, MaySeeWord, Mixed, MixedFrom, MixedWalk, Now, is_end_global, orders_ends, orders_pointers}
 use Rattle.any_tlb.specs.Possible.{Possible}
 use Rattle.any_tlb.specs.Steady.{phys_of}
 use Rattle.any_tlb.specs.Watch.{watched}
@@ -104,14 +104,14 @@ module _ (o : Opening) (h va : ℕ) (global : Bool) (asid : ℕ) (level : Level)
       by_order (orders_pointers global asid (effect_at o past event h)) refl (λ holds. all-turned past P holds)
     where
       by_pointer : (b : Bool) → is_some_pointer level (memory o (event ∷ past) pa) ≡ b → orders_pointers global asid (effect_at o past event h) ≡ false
-          → All P (if b then seen_words o past h (orders_ends va global asid) pa else [])
-      by_pointer true is kept = all-seen (λ past. memory o past pa) (λ word. orders_ends va global asid) o h past P (λ word sees. holds word (inr (sees, is), kept))
+          → All P (if b then seen_words o past h (orders_ends va level global asid) pa else [])
+      by_pointer true is kept = all-seen (λ past. memory o past pa) (λ word. orders_ends va level global asid) o h past P (λ word sees. holds word (inr (sees, is), kept))
       by_pointer false is kept = All-nil P
 
       by_order : (b : Bool) → orders_pointers global asid (effect_at o past event h) ≡ b
           → (((word : Option ℕ) → MaySeeTurned o past h va global asid level pa word → P word) → All P (turned_words h va global asid level pa o past))
           → All P (if b then [] else turned_words h va global asid level pa o past
-          ++ (if is_some_pointer level (memory o (event ∷ past) pa) then seen_words o past h (orders_ends va global asid) pa else []))
+          ++ (if is_some_pointer level (memory o (event ∷ past) pa) then seen_words o past h (orders_ends va level global asid) pa else []))
       by_order true is rest = All-nil P
       by_order false is rest =
           All-append P (turned_words h va global asid level pa o past) _ (rest (λ word turned. holds word (inl turned, is))) (by_pointer (is_some_pointer level (memory o (event ∷ past) pa)) refl is)
@@ -121,13 +121,13 @@ module _ (o : Opening) (h va : ℕ) (global : Bool) (asid : ℕ) (level : Level)
   turned-held (event ∷ past) P all word turned =
       by_order (orders_pointers global asid (effect_at o past event h)) turned.1 all (λ all turned. turned-held past P all word turned)
     where
-      by_pointer : (b : Bool) → b ≡ true → All P (if b then seen_words o past h (orders_ends va global asid) pa else []) → MaySeeWord o past h (orders_ends va global asid) pa word → P word
-      by_pointer true is all sees = seen-held (λ past. memory o past pa) (λ word. orders_ends va global asid) o h past P all word sees
+      by_pointer : (b : Bool) → b ≡ true → All P (if b then seen_words o past h (orders_ends va level global asid) pa else []) → MaySeeWord o past h (orders_ends va level global asid) pa word → P word
+      by_pointer true is all sees = seen-held (λ past. memory o past pa) (λ word. orders_ends va level global asid) o h past P all word sees
       by_pointer false is all sees = cc
 
       by_order : (b : Bool) → b ≡ false
           → All P (if b then [] else turned_words h va global asid level pa o past
-          ++ (if is_some_pointer level (memory o (event ∷ past) pa) then seen_words o past h (orders_ends va global asid) pa else []))
+          ++ (if is_some_pointer level (memory o (event ∷ past) pa) then seen_words o past h (orders_ends va level global asid) pa else []))
           → (All P (turned_words h va global asid level pa o past) → MaySeeTurned o past h va global asid level pa word → P word) → P word
       by_order true is all rest = cc
       by_order false is all rest = elim turned.0 [
@@ -137,13 +137,13 @@ module _ (o : Opening) (h va : ℕ) (global : Bool) (asid : ℕ) (level : Level)
 
   all-ends : (past : List Event) (P : Option ℕ → Type 0) → ((word : Option ℕ) → MaySeeEnd o past h va global asid level pa word → P word) → All P (end_words h va global asid level pa o past)
   all-ends past P holds =
-      All-append P (seen_words o past h (orders_ends va global asid) pa) (turned_words h va global asid level pa o past)
-      (all-seen (λ past. memory o past pa) (λ word. orders_ends va global asid) o h past P (λ word sees. holds word (inl sees))) (all-turned past P (λ word turned. holds word (inr turned)))
+      All-append P (seen_words o past h (orders_ends va level global asid) pa) (turned_words h va global asid level pa o past)
+      (all-seen (λ past. memory o past pa) (λ word. orders_ends va level global asid) o h past P (λ word sees. holds word (inl sees))) (all-turned past P (λ word turned. holds word (inr turned)))
 
   ends-held : (past : List Event) (P : Option ℕ → Type 0) → All P (end_words h va global asid level pa o past) → (word : Option ℕ) → MaySeeEnd o past h va global asid level pa word → P word
   ends-held past P all word (inl sees) =
-      seen-held (λ past. memory o past pa) (λ word. orders_ends va global asid) o h past P (left P (seen_words o past h (orders_ends va global asid) pa) (turned_words h va global asid level pa o past) all) word sees
-  ends-held past P all word (inr turned) = turned-held past P (right P (seen_words o past h (orders_ends va global asid) pa) (turned_words h va global asid level pa o past) all) word turned
+      seen-held (λ past. memory o past pa) (λ word. orders_ends va level global asid) o h past P (left P (seen_words o past h (orders_ends va level global asid) pa) (turned_words h va global asid level pa o past) all) word sees
+  ends-held past P all word (inr turned) = turned-held past P (right P (seen_words o past h (orders_ends va level global asid) pa) (turned_words h va global asid level pa o past) all) word turned
 
 -- ---- what walks give
 
@@ -161,7 +161,7 @@ module _ (pointers : ℕ → List (Option ℕ)) (ends : Level → ℕ → List (
   all-mixed (level ∷ under) table global holds =
       let pa = table + 8 * part level va in
       let below = λ (word : Option ℕ). mixed_from pointers ends va kind (table_of word) (global || is_some_global word) under in
-      let made = λ (word : Option ℕ). (let x : Bool × Result Leaf Cause = (global || is_some_global word, outcome word va kind level global) in x) in
+      let made = λ (word : Option ℕ). (let x : Bool × Result Leaf Cause = (global || is_end_global word, outcome word va kind level global) in x) in
       let others = λ (word : Option ℕ). not (is_some_pointer level word) in
       All-append P (flat_map below (filter (is_some_pointer level) (pointers pa))) (map made (filter others (ends level pa)))
       (all-flat P below (filter (is_some_pointer level) (pointers pa))
@@ -171,7 +171,7 @@ module _ (pointers : ℕ → List (Option ℕ)) (ends : Level → ℕ → List (
       (All-map P made (filter others (ends level pa))
       (filtered (λ word. P (made word)) others (ends level pa)
       ((are_ends level pa).all (λ word. others word ≡ true → P (made word))
-      (λ word sees other. holds (global || is_some_global word) (outcome word va kind level global) (inr (word, not-true (is_some_pointer level word) other, sees, refl, refl))))))
+      (λ word sees other. holds (global || is_end_global word) (outcome word va kind level global) (inr (word, not-true (is_some_pointer level word) other, sees, refl, refl))))))
 
   mixed-held : (levels : List Level) (table : ℕ) (global : Bool) → All P (mixed_from pointers ends va kind table global levels) → (met : Bool) (result : Result Leaf Cause)
       → MixedFrom Pointer End va kind table global levels met result → P (met, result)
@@ -188,7 +188,7 @@ module _ (pointers : ℕ → List (Option ℕ)) (ends : Level → ℕ → List (
   mixed-held (level ∷ under) table global all met result (inr end) =
       let pa = table + 8 * part level va in
       let below = λ (word : Option ℕ). mixed_from pointers ends va kind (table_of word) (global || is_some_global word) under in
-      let made = λ (word : Option ℕ). (let x : Bool × Result Leaf Cause = (global || is_some_global word, outcome word va kind level global) in x) in
+      let made = λ (word : Option ℕ). (let x : Bool × Result Leaf Cause = (global || is_end_global word, outcome word va kind level global) in x) in
       let others = λ (word : Option ℕ). not (is_some_pointer level word) in
       let last = right P (flat_map below (filter (is_some_pointer level) (pointers pa))) (map made (filter others (ends level pa))) all in
       let each = unfiltered (λ word. P (made word)) others (ends level pa) (mapped-all P made (filter others (ends level pa)) last) in

@@ -21,7 +21,7 @@ use Rattle.board_core.specs.Memory.{address_by, memory, satp}
 use Rattle.board_core.specs.Opening.{Opening}
 use Rattle.any_tlb.specs.Effects.{effect_at}
 use Rattle.any_tlb.specs.Firm.{IsMapped}
-use Rattle.any_tlb.specs.Mixed.{orders_ends, orders_pointers}
+use Rattle.any_tlb.specs.Mixed.{is_end_global, orders_ends, orders_pointers}
 use Rattle.any_tlb.specs.Steady.{phys_of}
 use Rattle.any_tlb.specs.Watch.{watched}
 
@@ -52,10 +52,10 @@ module _ (h va : ℕ) (global : Bool) (asid : ℕ) (level : Level) (pa : ℕ) wh
       if orders_pointers global asid (effect_at o past event h) then []
       else turned_words o past
       ++ (if is_some_pointer level (memory o (event ∷ past) pa)
-      then seen_words o past h (orders_ends va global asid) pa else [])
+      then seen_words o past h (orders_ends va level global asid) pa else [])
 
   abbrev pub end_words : Opening → List Event → List (Option ℕ)
-  end_words o past = seen_words o past h (orders_ends va global asid) pa ++ turned_words o past
+  end_words o past = seen_words o past h (orders_ends va level global asid) pa ++ turned_words o past
 
 -- What walks from a table on give, each with whether it meets G, by the words at each physical address that they may
 -- see as pointers and at their end (Privileged 4.3.2).
@@ -65,7 +65,7 @@ mixed_from pointers ends va kind table global [] = (global, Err (page_fault kind
 mixed_from pointers ends va kind table global (level ∷ under) =
     flat_map (λ word. mixed_from pointers ends va kind (table_of word) (global || is_some_global word) under)
     (filter (is_some_pointer level) (pointers (table + 8 * part level va)))
-    ++ map (λ word. (global || is_some_global word, outcome word va kind level global))
+    ++ map (λ word. (global || is_end_global word, outcome word va kind level global))
     (filter (λ word. not (is_some_pointer level word)) (ends level (table + 8 * part level va)))
 
 -- whether two truth values are the same

@@ -185,7 +185,7 @@ impl ToldCause {
                 harts,
                 reach,
             } => {
-                write!(f, "fenced at ")?;
+                write!(f, "fenced{} at ", kind_of(&self.cause.held))?;
                 self.write_step(f, *place)?;
                 write!(f, ", which asked ")?;
                 write_harts(f, harts)?;

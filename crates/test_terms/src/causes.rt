@@ -83,7 +83,8 @@ fn asked_of(place: usize, mark: Mark, marks: &[Marks]) -> Asked {
     let is_unsteady = marks.get(place).is_some_and(|marks| marks.unsteady);
     let asks = match mark {
         Mark::Unfirm if !is_unsteady => Asks::Firm,
-        Mark::Unlenient if !is_unsteady => Asks::Lenient,
+        Mark::Unlenient if is_unsteady => Asks::LenientOrHeld,
+        Mark::Unlenient => Asks::Lenient,
         _ => Asks::Held,
     };
     Asked { place, asks }

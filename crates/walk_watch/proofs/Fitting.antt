@@ -9,7 +9,7 @@ use Rattle.sv39.specs.declared.page.Level.{Level}
 use Rattle.sv39.specs.Causes.{page_fault}
 use Rattle.sv39.specs.Maps.{is_some_global, is_some_pointer, outcome, table_of}
 use Rattle.sv39.specs.Pages.{part}
-use Rattle.any_tlb.specs.Mixed.{MixedFrom}
+use Rattle.any_tlb.specs.Mixed.{MixedFrom, is_end_global}
 use Rattle.any_tlb.specs.Steady.{phys_of}
 use Rattle.any_tlb.specs.WatchedWalks.{is_bool}
 use Rattle.tlb_watch.specs.Deciding.{is_same_result}
@@ -118,14 +118,14 @@ module _ (s : Sought) (notes : List WalkNote) (memory : ℕ → Option ℕ) (Poi
   pointer-test level under global x is =
       ap (λ (b : Bool). if b
       then fits_from s notes memory under (table_of x) (global || is_some_global x)
-      else counted_fits s (global || is_some_global x) (outcome x s.wanted.va s.wanted.kind level global)) is
+      else counted_fits s (global || is_end_global x) (outcome x s.wanted.va s.wanted.kind level global)) is
 
   end-test : (level : Level) (under : List Level) (global : Bool) (x : Option ℕ) → is_some_pointer level x ≡ false
-      → word_fits s notes memory level under global x ≡ counted_fits s (global || is_some_global x) (outcome x s.wanted.va s.wanted.kind level global)
+      → word_fits s notes memory level under global x ≡ counted_fits s (global || is_end_global x) (outcome x s.wanted.va s.wanted.kind level global)
   end-test level under global x is =
       ap (λ (b : Bool). if b
       then fits_from s notes memory under (table_of x) (global || is_some_global x)
-      else counted_fits s (global || is_some_global x) (outcome x s.wanted.va s.wanted.kind level global)) is
+      else counted_fits s (global || is_end_global x) (outcome x s.wanted.va s.wanted.kind level global)) is
 
   pub from-so : (levels : List Level) (table : ℕ) (global : Bool) → (fits_from s notes memory levels table global ≡ true) ↔ AllFit levels table global
   from-so [] table global =
@@ -148,7 +148,7 @@ module _ (s : Sought) (notes : List WalkNote) (memory : ℕ → Option ℕ) (Poi
       to each rest result (inr end) =
           let x : Option ℕ = end.0 in
           let test = each x ((seen level (here level table) x).1 (inr (end.1, end.2))) in
-          let fits = (counted-so s (global || is_some_global x) (outcome x s.wanted.va s.wanted.kind level global)).0 (sym (end-test level under global x end.1) ∙ test) end.4 in
+          let fits = (counted-so s (global || is_end_global x) (outcome x s.wanted.va s.wanted.kind level global)).0 (sym (end-test level under global x end.1) ∙ test) end.4 in
           subst (Fits s.wanted) (sym end.3) fits
 
       from : AllFit (level ∷ under) table global → Rest under global → (x : Option ℕ) → IsIn (Words level table) x → word_fits s notes memory level under global x ≡ true
@@ -159,5 +159,5 @@ module _ (s : Sought) (notes : List WalkNote) (memory : ℕ → Option ℕ) (Poi
               pointer-test level under global x pointer.0 ∙ (rest x).1 (λ result walk. all result (inl (x, pointer.0, pointer.1, walk)))
           by_side (inr end) =
               end-test level under global x end.0
-              ∙ (counted-so s (global || is_some_global x) (outcome x s.wanted.va s.wanted.kind level global)).1
+              ∙ (counted-so s (global || is_end_global x) (outcome x s.wanted.va s.wanted.kind level global)).1
               (λ same. all (outcome x s.wanted.va s.wanted.kind level global) (inr (x, end.0, end.1, refl, same)))

@@ -230,12 +230,12 @@ module _ (spot : Spot) (notes : List WalkNote) (m : Option ℕ) (P E T : Option 
       else unseen s
 
   module _ (pointers ends : Bool) (p-is : orders_pointers spot.walkers.met spot.walkers.asid (Drops flush) ≡ pointers)
-      (e-is : orders_ends spot.walkers.va spot.walkers.met spot.walkers.asid (Drops flush) ≡ ends) where
+      (e-is : orders_ends spot.walkers.va spot.level spot.walkers.met spot.walkers.asid (Drops flush) ≡ ends) where
     behind-is : (s : Sight) → back spot s (Fence x flush) ≡ behind s pointers ends
     behind-is s = ap (λ (b : Bool). if b then fenced spot s flush else unseen s) here ∙ (λ i. behind s (p-is i) (e-is i))
 
   -- of pointers
-  all-ordered : orders_pointers spot.walkers.met spot.walkers.asid (Drops flush) ≡ true → orders_ends spot.walkers.va spot.walkers.met spot.walkers.asid (Drops flush) ≡ true
+  all-ordered : orders_pointers spot.walkers.met spot.walkers.asid (Drops flush) ≡ true → orders_ends spot.walkers.va spot.level spot.walkers.met spot.walkers.asid (Drops flush) ≡ true
       → Tells spot (Fence x flush ∷ notes) m (Next m true P) (Next m true E) (Turn spot m true E T)
   all-ordered p-is e-is = record {
     now-pointer = inl refl;
@@ -251,7 +251,7 @@ module _ (spot : Spot) (notes : List WalkNote) (m : Option ℕ) (P E T : Option 
   }
 
   -- of the ends of walks
-  ends-ordered : orders_pointers spot.walkers.met spot.walkers.asid (Drops flush) ≡ false → orders_ends spot.walkers.va spot.walkers.met spot.walkers.asid (Drops flush) ≡ true
+  ends-ordered : orders_pointers spot.walkers.met spot.walkers.asid (Drops flush) ≡ false → orders_ends spot.walkers.va spot.level spot.walkers.met spot.walkers.asid (Drops flush) ≡ true
       → Tells spot (Fence x flush ∷ notes) m (Next m false P) (Next m true E) (Turn spot m false E T)
   ends-ordered p-is e-is = record {
     now-pointer = inl refl;
@@ -282,7 +282,7 @@ module _ (spot : Spot) (notes : List WalkNote) (m : Option ℕ) (P E T : Option 
         ]),
       )
 
-  pub told-fence : (pointers ends : Bool) → orders_pointers spot.walkers.met spot.walkers.asid (Drops flush) ≡ pointers → orders_ends spot.walkers.va spot.walkers.met spot.walkers.asid (Drops flush) ≡ ends
+  pub told-fence : (pointers ends : Bool) → orders_pointers spot.walkers.met spot.walkers.asid (Drops flush) ≡ pointers → orders_ends spot.walkers.va spot.level spot.walkers.met spot.walkers.asid (Drops flush) ≡ ends
       → (pointers ≡ true → ends ≡ true) → Tells spot (Fence x flush ∷ notes) m (Next m pointers P) (Next m ends E) (Turn spot m pointers E T)
   told-fence true true p-is e-is both = all-ordered p-is e-is
   told-fence true false p-is e-is both = let e : false ≡ true = both refl in absurd (cc)

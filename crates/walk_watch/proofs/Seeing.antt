@@ -4,6 +4,7 @@ use Rattle.std.specs.Prelude.{◌⊎◌, ◌==◌, ◌&&◌, if◌then◌else◌
 use Rattle.std.proofs.lemmas.Bool.{and_parts, eq-eqb, eqb-true}
 use Rattle.rfence.specs.Applied as applied
 use Rattle.rfence.specs.Applied.{Effect, Drops, Empties}
+use Rattle.sv39.specs.declared.page.Level.{Level}
 use Rattle.sv39.specs.Maps.{is_some_pointer}
 use Rattle.tlb_model.specs.declared.fence.Fence.{Fence as FenceOf}
 use Rattle.tlb_model.specs.declared.fence.Flush.{Flush}
@@ -12,8 +13,7 @@ use Rattle.tlb_model.specs.declared.fence.Range.{Range}
 use Rattle.board_core.specs.History.{Event}
 use Rattle.board_core.specs.Memory.{memory}
 use Rattle.board_core.specs.Opening.{Opening}
-use Rattle.board_laws.specs.Fresh.{is_of_page}
-use Rattle.any_tlb.specs.Mixed.{MaySeeEnd, MaySeeTurned, MaySeeWord, is_of_walk, orders_ends, orders_pointers}
+use Rattle.any_tlb.specs.Mixed.{MaySeeEnd, MaySeeTurned, MaySeeWord, is_of_walk, orders_ends, orders_pointers, reaches_page}
 use Rattle.any_tlb.proofs.Seen.{seen-now}
 use Rattle.tlb_watch.specs.declared.effect.CacheEffect.{CacheEffect}
 use Rattle.tlb_watch.specs.declared.effect.CacheEffect.TheVariants.{Nothing, Applied, Reset}
@@ -29,11 +29,11 @@ use Rattle.walk_watch.proofs.Looking.{Next, Seen, Tells, Turn, at, told-change, 
 use Rattle.walk_watch.proofs.Showing.{Shows, seen-shows}
 
 -- what orders pointers orders the ends of walks
-ends-too : (met : Bool) (asid va : ℕ) (flush : Flush) → orders_pointers met asid (Drops flush) ≡ true → orders_ends va met asid (Drops flush) ≡ true
-ends-too met asid va Words is = is
-ends-too met asid va (Entries fence) is = by_range fence.range (and_parts (is_none fence.range) (is_of_walk fence.asid met asid) is)
+ends-too : (met : Bool) (asid va : ℕ) (level : Level) (flush : Flush) → orders_pointers met asid (Drops flush) ≡ true → orders_ends va level met asid (Drops flush) ≡ true
+ends-too met asid va level Words is = is
+ends-too met asid va level (Entries fence) is = by_range fence.range (and_parts (is_none fence.range) (is_of_walk fence.asid met asid) is)
   where
-    by_range : (range : Option Range) → (is_none range ≡ true) × (is_of_walk fence.asid met asid ≡ true) → (is_of_page range va && is_of_walk fence.asid met asid) ≡ true
+    by_range : (range : Option Range) → (is_none range ≡ true) × (is_of_walk fence.asid met asid ≡ true) → (reaches_page range level va && is_of_walk fence.asid met asid) ≡ true
     by_range None parts = parts.1
     by_range (Some range) parts = let e : false ≡ true = parts.0 in cc
 
@@ -42,7 +42,7 @@ module _ (o : Opening) (spot : Spot) where
   P past x = MaySeeWord o past spot.walkers.hart (orders_pointers spot.walkers.met spot.walkers.asid) spot.at x
 
   abbrev E : List Event → Option ℕ → Type 0
-  E past x = MaySeeWord o past spot.walkers.hart (orders_ends spot.walkers.va spot.walkers.met spot.walkers.asid) spot.at x
+  E past x = MaySeeWord o past spot.walkers.hart (orders_ends spot.walkers.va spot.level spot.walkers.met spot.walkers.asid) spot.at x
 
   abbrev T : List Event → Option ℕ → Type 0
   T past x = MaySeeTurned o past spot.walkers.hart spot.walkers.va spot.walkers.met spot.walkers.asid spot.level spot.at x
@@ -50,7 +50,7 @@ module _ (o : Opening) (spot : Spot) where
   -- what is told after an event with an effect
   abbrev After : List Event → Effect Flush → Option ℕ → List WalkNote → Type 0
   After past done m notes =
-      Tells spot notes m (Next m (orders_pointers spot.walkers.met spot.walkers.asid done) (P past)) (Next m (orders_ends spot.walkers.va spot.walkers.met spot.walkers.asid done) (E past))
+      Tells spot notes m (Next m (orders_pointers spot.walkers.met spot.walkers.asid done) (P past)) (Next m (orders_ends spot.walkers.va spot.level spot.walkers.met spot.walkers.asid done) (E past))
       (Turn spot m (orders_pointers spot.walkers.met spot.walkers.asid done) (E past) (T past))
 
   module _ (event : Event) (past : List Event) (notes : List WalkNote) (c : Tells spot notes (memory o past spot.at) (P past) (E past) (T past)) where
@@ -81,8 +81,8 @@ module _ (o : Opening) (spot : Spot) where
         by_test : (b : Bool) → (x == spot.walkers.hart) ≡ b → After past (if b then Drops (Entries fence) else applied.Nothing) new (Fence x (Entries fence) ∷ later)
         by_test true here =
             told-fence spot later new (P past) (E past) (T past) told x (Entries fence) here
-            (orders_pointers spot.walkers.met spot.walkers.asid (Drops (Entries fence))) (orders_ends spot.walkers.va spot.walkers.met spot.walkers.asid (Drops (Entries fence))) refl refl
-            (ends-too spot.walkers.met spot.walkers.asid spot.walkers.va (Entries fence))
+            (orders_pointers spot.walkers.met spot.walkers.asid (Drops (Entries fence))) (orders_ends spot.walkers.va spot.level spot.walkers.met spot.walkers.asid (Drops (Entries fence))) refl refl
+            (ends-too spot.walkers.met spot.walkers.asid spot.walkers.va spot.level (Entries fence))
         by_test false there =
             told-on spot (Fence x (Entries fence)) later new (Next new false (P past)) (Next new false (E past)) (Turn spot new false (E past) (T past))
             (λ free shows. ap (λ (b : Bool). if b then fenced spot (at new free shows) (Entries fence) else unseen (at new free shows)) there) told
@@ -136,7 +136,7 @@ module _ (o : Opening) (spot : Spot) where
         where
           by_test : (b : Bool) → is_some_pointer spot.level x ≡ b → Sees past x
           by_test true is = inl (is, seen-now (λ past. memory o past spot.at) (orders_pointers spot.walkers.met spot.walkers.asid) o past spot.walkers.hart x same)
-          by_test false is = inr (is, inl (seen-now (λ past. memory o past spot.at) (orders_ends spot.walkers.va spot.walkers.met spot.walkers.asid) o past spot.walkers.hart x same))
+          by_test false is = inr (is, inl (seen-now (λ past. memory o past spot.at) (orders_ends spot.walkers.va spot.level spot.walkers.met spot.walkers.asid) o past spot.walkers.hart x same))
 
       later : Seen spot (P past) (E past) (T past) true x → Sees past x
       later (inl pointer) = inl pointer

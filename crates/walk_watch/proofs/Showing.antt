@@ -130,7 +130,7 @@ fence-sight spot s here pointers ends =
 
 fence-over : (spot : Spot) (s : Sight) (x : ℕ) (flush : Flush) → s.over ≡ true → ((back spot s (Fence x flush)).over ≡ true) × ((back spot s (Fence x flush)).shows ≡ false)
 fence-over spot s x flush over =
-    by_tests (x == spot.walkers.hart) (orders_pointers spot.walkers.met spot.walkers.asid (Drops flush)) (orders_ends spot.walkers.va spot.walkers.met spot.walkers.asid (Drops flush))
+    by_tests (x == spot.walkers.hart) (orders_pointers spot.walkers.met spot.walkers.asid (Drops flush)) (orders_ends spot.walkers.va spot.level spot.walkers.met spot.walkers.asid (Drops flush))
   where
     by_tests : (here pointers ends : Bool) → ((fence-sight spot s here pointers ends).over ≡ true) × ((fence-sight spot s here pointers ends).shows ≡ false)
     by_tests true true ends = (refl, refl)

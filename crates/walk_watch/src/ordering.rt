@@ -1,10 +1,9 @@
 //! What fences order for walks of page tables.
 ghost use Rattle.std.specs.Prelude.{◌≡◌};
 ghost use Rattle.rfence.specs.Applied.{Drops};
-ghost use Rattle.board_laws.specs.Fresh.{is_of_page};
-ghost use Rattle.any_tlb.specs.Mixed.{is_of_walk, orders_ends, orders_pointers};
+ghost use Rattle.any_tlb.specs.Mixed.{is_of_walk, orders_ends, orders_pointers, reaches_page};
 
-use sv39::PAGE_BYTES;
+use sv39::Level;
 use tlb_model::{Flush, Range};
 
 /// Walks of a hart for an address that each fence orders alike: those by one ASID that meet no G or, with `met`, those
@@ -27,14 +26,15 @@ pub(crate) fn orders_pointers(met: bool, asid: u64, flush: Flush) -> bool
     }
 }
 
-/// Whether a fence orders the words at which these walks end (Privileged 4.2.1).
-pub(crate) fn orders_ends(walkers: Walkers, flush: Flush) -> bool
-    ensures { result ≡ orders_ends walkers.va walkers.met walkers.asid (Drops flush) }
+/// Whether a fence orders the words of this level at which these walks end (Privileged 4.2.1).
+pub(crate) fn orders_ends(walkers: Walkers, level: Level, flush: Flush) -> bool
+    ensures { result ≡ orders_ends walkers.va level walkers.met walkers.asid (Drops flush) }
 {
     match flush {
         Flush::Words => false,
         Flush::Entries(fence) => {
-            is_of_page(fence.range, walkers.va) && is_of_walk(fence.asid, walkers.met, walkers.asid)
+            reaches_page(fence.range, level, walkers.va)
+                && is_of_walk(fence.asid, walkers.met, walkers.asid)
         }
     }
 }
@@ -50,12 +50,15 @@ fn is_of_walk(of: Option<u16>, met: bool, asid: u64) -> bool
     }
 }
 
-/// Whether a fence of these addresses, or of all (None), is of the address's page.
-fn is_of_page(range: Option<Range>, va: u64) -> bool
-    ensures { result ≡ is_of_page range va }
+/// Whether a fence of these addresses, or of all (None), reaches the page of this level that has the address.
+fn reaches_page(range: Option<Range>, level: Level, va: u64) -> bool
+    ensures { result ≡ reaches_page range level va }
 {
     match range {
         None => true,
-        Some(range) => range.meets(va / PAGE_BYTES * PAGE_BYTES, PAGE_BYTES),
+        Some(range) => {
+            let size = level.size();
+            range.meets(va - va % size, size)
+        }
     }
 }

@@ -9,7 +9,7 @@ ghost use Rattle.walk_watch.specs.Inside.Fits.{counted_fits, fits_from, former_f
 use crate::former::{FormerSatp, WalkNote};
 use crate::ordering::Walkers;
 use crate::sight::{Spot, words_seen};
-use crate::table_word::{is_global, is_pointer, outcome, table_of};
+use crate::table_word::{is_end_global, is_global, is_pointer, outcome, table_of};
 use crate::wanted::Wanted;
 use std::alloc::{AllocError, Global};
 use sv39::{Cause, Leaf, Level, PAGE_BYTES, Paging, Ram, Satp};
@@ -49,10 +49,11 @@ impl Sought {
         let mut fits = true;
         for seen in &words {
             let word = *seen;
-            let met = global || is_global(word);
             let fit = if is_pointer(word, level) {
+                let met = global || is_global(word);
                 self.fits_from(alloc, notes, ram, under, table_of(word), met)?
             } else {
+                let met = global || is_end_global(word);
                 let found = outcome(word, self.wanted.va, self.wanted.kind, level, global);
                 self.counted_fits(met, found)
             };

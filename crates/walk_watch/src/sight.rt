@@ -23,8 +23,8 @@ pub(crate) struct Spot {
 pub(crate) struct Sight {
     /// The word that stood there.
     pub(crate) word: Option<u64>,
-    /// Whether walks may still end at what stood there: no fence of the address was applied since, or a pointer stood there
-    /// before such a fence.
+    /// Whether walks may still end at what stood there: no fence of the address's page of the level was applied since, or a
+    /// pointer stood there before such a fence.
     pub(crate) free: bool,
     /// Whether a fence orders all that stood there.
     pub(crate) over: bool,
@@ -93,7 +93,7 @@ impl Sight {
                 over: true,
                 shows: false,
             }
-        } else if orders_ends(spot.walkers, flush) {
+        } else if orders_ends(spot.walkers, spot.level, flush) {
             Sight {
                 word: self.word,
                 free: is_pointer(self.word, spot.level),

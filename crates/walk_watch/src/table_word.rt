@@ -2,6 +2,7 @@
 ghost use Rattle.std.specs.Prelude.{◌≡◌, ◌<◌, ◌*◌, ◌^◌, Some};
 ghost use Rattle.sv39.specs.Entries.{has_bit, is_aligned, is_leaf, is_pointer, is_present, leaf_of, page_number};
 ghost use Rattle.sv39.specs.Maps.{is_some_global, is_some_pointer, outcome, table_of};
+ghost use Rattle.any_tlb.specs.Mixed.{is_end_global};
 
 use sv39::{Cause, Kind, Leaf, Level, PAGE_BYTES};
 
@@ -39,6 +40,17 @@ pub(crate) fn is_global(word: Option<u64>) -> bool
 {
     match word {
         Some(word) => has(word, G),
+        None => false,
+    }
+}
+
+/// Whether a walk that ends at a word meets G there: the word is in the RAM, and has V and G. Without V the other bits are
+/// software's (Privileged 4.3.1).
+pub(crate) fn is_end_global(word: Option<u64>) -> bool
+    ensures { result ≡ is_end_global word }
+{
+    match word {
+        Some(word) => has(word, V) && has(word, G),
         None => false,
     }
 }

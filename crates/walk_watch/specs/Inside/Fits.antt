@@ -10,6 +10,7 @@ use Rattle.sv39.specs.Maps.{is_some_global, is_some_pointer, outcome, table_of}
 use Rattle.sv39.specs.Pages.{levels_from, part}
 use Rattle.sv39.specs.Paging.{scheme}
 use Rattle.sv39.specs.Satp.{asid_of, is_valid, paging_of, root_address, translates}
+use Rattle.any_tlb.specs.Mixed.{is_end_global}
 use Rattle.any_tlb.specs.Steady.{phys_of}
 use Rattle.any_tlb.specs.WatchedWalks.{is_bool}
 use Rattle.tlb_watch.specs.Deciding.{is_same_result, is_translated}
@@ -60,7 +61,7 @@ fits_from s notes memory [] table global = counted_fits s global (Err (page_faul
 fits_from s notes memory (level ∷ under) table global =
     list_all (λ word. if is_some_pointer level word
     then fits_from s notes memory under (table_of word) (global || is_some_global word)
-    else counted_fits s (global || is_some_global word) (outcome word s.wanted.va s.wanted.kind level global))
+    else counted_fits s (global || is_end_global word) (outcome word s.wanted.va s.wanted.kind level global))
     (words_seen (spot_of s level (table + 8 * part level s.wanted.va)) notes (memory (table + 8 * part level s.wanted.va)))
 
 -- the test of one word of that level
@@ -68,7 +69,7 @@ abbrev pub word_fits : Sought → List WalkNote → (memory : ℕ → Option ℕ
 word_fits s notes memory level under global word =
     if is_some_pointer level word
     then fits_from s notes memory under (table_of word) (global || is_some_global word)
-    else counted_fits s (global || is_some_global word) (outcome word s.wanted.va s.wanted.kind level global)
+    else counted_fits s (global || is_end_global word) (outcome word s.wanted.va s.wanted.kind level global)
 
 -- whether walks by a satp count, for an access by this one
 abbrev pub is_counted : (met : Bool) → (present va satp : ℕ) → Bool

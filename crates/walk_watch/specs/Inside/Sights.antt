@@ -38,7 +38,7 @@ abbrev pub fenced : Spot → Sight → Flush → Sight
 fenced spot s flush =
     if orders_pointers spot.walkers.met spot.walkers.asid (Drops flush)
     then record { word = s.word; free = s.free; over = true; shows = false }
-    else if orders_ends spot.walkers.va spot.walkers.met spot.walkers.asid (Drops flush)
+    else if orders_ends spot.walkers.va spot.level spot.walkers.met spot.walkers.asid (Drops flush)
     then record { word = s.word; free = is_some_pointer spot.level s.word; over = s.over; shows = false }
     else unseen s
 
