@@ -36,13 +36,13 @@ BUILT = os.path.join(ROOT, "crates/sbiboard_test/out/sbiboard_test")
 MOST, FEW = 1_000_000, 20_000
 
 
-def shootdown(times, loads):
-    """Hart 0 maps a page, starts two others that load from it, and changes its leaf so often, with a fence of them each time."""
-    lines = ["#! never _ load 0x1000 -> fault 5", "board 3 8 1000 0 0x80000000 0x0", "at 0x80000000"]
+def shootdown(times, loads, harts=3):
+    """Hart 0 maps a page, starts the others, which load from it, and changes its leaf so often, with a fence of them each time."""
+    lines = ["#! never _ load 0x1000 -> fault 5", f"board {harts} 8 1000 0 0x80000000 0x0", "at 0x80000000"]
     lines += ["store 0x80001000 0x20000801", "store 0x80002000 0x20000c01", "store 0x80003008 0x200010cf"]
-    lines += ["ecall 0x48534d 0 1 0x80000100", "ecall 0x48534d 0 2 0x80000100"]
+    lines += [f"ecall 0x48534d 0 {hart} 0x80000100" for hart in range(1, harts)]
     for time_of in range(times):
-        lines += [f"store 0x80003008 {0x200010CF + 0x400 * (1 + time_of % 2):#x}", "ecall 0x52464e43 1 0x6 0 0x1000 0x1000"]
+        lines += [f"store 0x80003008 {0x200010CF + 0x400 * (1 + time_of % 2):#x}", f"ecall 0x52464e43 1 {(1 << harts) - 2:#x} 0 0x1000 0x1000"]
     lines += ["at 0x80000100", "satp 0x8000000000080001", *["load 0x1000"] * loads]
     return "\n".join(lines) + "\n"
 

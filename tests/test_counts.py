@@ -10,7 +10,7 @@ from .fixtures import HANG, HERE, ROOT, Test, must, read, write
 NEEDING = [
     ("each allocation refused", "C compiler"), ("what fences cost", "valgrind"), ("a kept record grows", "strace"), ("points are read by others", "prove"),
     ("pages name the toolchain", "rt"), ("timelines in a browser", "chromium"), ("timelines: pages are drawn", "node"),
-    ("a fresh record: interrupts", "qemu-system-riscv64"), ("two crates at a time, by the toolchain", "toolchain"),
+    ("a fresh record: interrupts", "qemu-system-riscv64"), ("two crates at a time, by the toolchain", "toolchain"), ("spin counts the same states", "spin"),
 ]  # fmt: skip
 
 # Tests of each end, which stand beside a copy of the runner.

@@ -1,7 +1,9 @@
 """All orders of programs: what `sbiboard explore` says of them, beside orders that are counted by the model of the tools."""
 import os
 import re
+import shutil
 import subprocess
+import sys
 
 from . import all_orders, programs
 from .fixtures import EXAMPLES, HANG, PROGRAM, ROOT, TESTER, Test, example_programs, explored, must, ran, read, script, tester, write
@@ -235,6 +237,14 @@ class Explore(Test):
             found.append([it for it in lines if it.startswith("# outcomes: ")])
             must(f"{most} states: status {status}, {lines}", status == 0 and found[-1] in ([outcomes], ["# outcomes: not told, there are too many states"]))
         must(f"{found}", found[0] != [outcomes] and found[-1] == [outcomes] and found == sorted(found, key=lambda it: it == [outcomes]))
+
+    def test_spin_counts_the_same_states(self):
+        """SPIN finds as many states and steps as explore, of a model of the same shootdowns by hand."""
+        if missing := [it for it in ("spin", "gcc") if shutil.which(it) is None]:
+            self.skipTest(f"there is no {missing[0]}")
+        found = subprocess.run([sys.executable, os.path.join(ROOT, "bench/spin.py"), "--agree", "--harts", "4", TESTER], capture_output=True, text=True, timeout=HANG)
+        wanted = [f"both count the same {it} of {harts} harts" for harts, it in ((2, "41 states and 60 steps"), (3, "422 states and 1,001 steps"), (4, "5,759 states and 19,254 steps"))]
+        must(f"{found}", found.returncode == 0 and found.stdout.splitlines()[1:] == wanted)
 
     def test_help_of_explore_is_stored(self):
         """The help that the script has before the program is built is the program's own."""
