@@ -223,7 +223,7 @@ class FuzzFirmware(Test):
             must(f"of two runs: status {found.returncode}, not {status}, and it said {found.stdout} {found.stderr}", found.returncode == status)
         none, image = os.path.join(self.room, "none"), write(os.path.join(self.room, "image"), "another image")
         files = [[name, none] for name in ("--bios", "--image", "--read")] + [["--image", image, "--write", none], ["--image", image, "--keep", os.path.join(image, "in it")]]
-        for wrong in (["--seeds", "5-4"], ["--seeds", "1", "--harts", "9"], ["--seeds", "1", "--operations", "0"], ["--seeds", "1", "--jobs", "0"], *(["--seeds", "1", *it] for it in files)):
+        for wrong in (["--seeds", "5-4"], ["--seeds", "1", "--harts", "9"], ["--seeds", "1", "--operations", "0"], ["--seeds", "1", "--jobs", "0"], ["--seeds", "1-2", "--read", image], ["--seeds", "1-2", "--write", none], ["--seeds", "1", "--write", none, "--read", image], *(["--seeds", "1", *it] for it in files)):
             found = subprocess.run([TOOL, *wrong], stdin=subprocess.DEVNULL, capture_output=True, text=True, timeout=60)
             must(f"{wrong}: {found}", found.returncode == 1 and found.stderr.startswith("fuzz-firmware: ") and found.stderr.count("\n") == 1)
 

@@ -1,8 +1,9 @@
 """tools/to-trace by tables: each option, each bound, and the rules of hart lists."""
+import gzip
 import os
 import re
 
-from .fixtures import Test, checked, must, named, read, script, write
+from .fixtures import Test, checked, must, named, read, read_bytes, script, write
 from .test_to_trace import TO_TRACE, printed_by
 
 ENTRY = "record 2\n0 entry 0x80000000 0 0\n"
@@ -54,6 +55,17 @@ class ToTraceOptions(Test):
         must("the report has conditions in it", printed_by([TO_TRACE, "--report", "--conditions", asked, "--out", made, path])[0] == report and "#! some 0 advance\n" in read(made))
         heads = [line for line in with_them.split("board ")[0].splitlines() if line.startswith("#!")]
         must(f"{with_them}", heads == ["#! never 0 poll", "#! some 0 advance"] and [line for line in with_them.splitlines() if line not in heads] == trace.splitlines())
+
+    def test_compressed_records(self):
+        """A record that gzip compressed is read as it is; one that was cut off is told."""
+        path = script(self.room, (ENTRY + CALL.format("0x10 0", 0, 0x1000000)).encode())
+        packed = gzip.compress(read_bytes(path))
+        wanted = printed_by([TO_TRACE, "--report", path])
+        write(path, packed)
+        must(f"it isn't {wanted}", printed_by([TO_TRACE, "--report", path]) == wanted)
+        write(path, packed[:40])
+        printed, said = printed_by([TO_TRACE, path], 1)
+        must(f"{printed!r}, {said!r}", not printed and said == f"to-trace: {path}: what gzip compressed is broken\n")
 
     def test_calls_that_are_passed_over_by_each_name(self):
         """--ignore passes over the calls of each name, alone and together, and no others."""

@@ -3,6 +3,7 @@ from board_model import (
     CUT, GONE, HSM, INTERRUPTIBLE, IPI, RFENCE, SRST, SSI, STATES, STI, SUSPENDED, WAITING, board_of, spelled_answer, spelled_step, step_of, targets,
 )  # fmt: skip
 from causes import Causes
+from entry import contents
 from holdings import Holdings
 from records import Broken, read
 from states import Difference, Step
@@ -81,8 +82,7 @@ def of_script(text):
 
 
 def read_file(path, shift):
-    with open(path, "rb") as file:
-        text = file.read()
+    text = contents(path)
     first = next((words for words in (line.partition(b"#")[0].split() for line in text.splitlines()) if words), [])
     return of_record(text, shift) if first[:1] == [b"record"] else of_script(text)
 

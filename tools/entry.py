@@ -1,10 +1,13 @@
 """How every tool begins and ends: it answers --help, and exits quietly if its output's reader is gone."""
 import argparse
+import errno
+import gzip
 import os
 import re
 import select
 import signal
 import sys
+import zlib
 
 
 def usage_of(doc):
@@ -17,6 +20,18 @@ def path(word):
     if not word:
         raise argparse.ArgumentTypeError("a name is wanted, and it is empty")
     return word
+
+
+def contents(name):
+    """The bytes of a file, which gzip may have compressed."""
+    with open(name, "rb") as file:
+        data = file.read()
+    if data[:2] != b"\x1f\x8b":
+        return data
+    try:
+        return gzip.decompress(data)
+    except (OSError, EOFError, zlib.error):
+        raise OSError(errno.EIO, "what gzip compressed is broken", name) from None
 
 
 def as_ascii(text):
