@@ -9,8 +9,7 @@ bit is_start_pending[HARTS];
 bit is_started[HARTS];
 byte entry[HARTS];          /* the leaf in a hart's TLB; 0: none */
 bit has_fence[HARTS];       /* a fence waits at a hart */
-bit is_asked[HARTS];        /* while hart 0 is inside its call: the harts that it asked */
-bit is_in_call;
+bit is_in_call;             /* hart 0 is inside its fence call */
 byte waiting;               /* how many fences wait */
 byte leaf = 1;              /* the leaf in memory */
 byte at;
@@ -19,17 +18,7 @@ inline ask() {
     is_in_call = 1;
     at = 1;
     do
-    :: at < HARTS -> is_asked[at] = is_started[at]; has_fence[at] = is_started[at]; waiting = waiting + is_started[at]; at++
-    :: at == HARTS -> break
-    od;
-    at = 0
-}
-
-inline poll() {
-    is_in_call = 0;
-    at = 1;
-    do
-    :: at < HARTS -> is_asked[at] = 0; at++
+    :: at < HARTS -> has_fence[at] = is_started[at]; waiting = waiting + is_started[at]; at++
     :: at == HARTS -> break
     od;
     at = 0
@@ -56,7 +45,7 @@ active proctype board() {
     do
     :: d_step { !is_started[0] -> is_started[0] = 1; left[0] = 3 + STARTS }
     :: d_step { is_started[0] && left[0] > 0 && !is_in_call -> change() }
-    :: d_step { is_in_call && waiting == 0 -> poll() }
+    :: d_step { is_in_call && waiting == 0 -> is_in_call = 0 }
     HART(1)
 #if HARTS > 2
     HART(2)

@@ -29,10 +29,10 @@ MOST = 4_000_000
 
 
 def verifier(room, harts, flags):
-    """SPIN's verifier of the model, built in a folder of its own. (-o2 keeps what no later step reads, as explore does.)"""
+    """SPIN's verifier of the model, built in a folder of its own."""
     own = os.path.join(room, f"{harts}{''.join(flags)}")
     os.mkdir(own)
-    for command in (["spin", "-a", "-o2", f"-DHARTS={harts}", "-DCHANGES=1", "-DLOADS=2", MODEL], ["gcc", "-O3", *flags, "-o", "pan", "pan.c"]):
+    for command in (["spin", "-a", f"-DHARTS={harts}", "-DCHANGES=1", "-DLOADS=2", MODEL], ["gcc", "-O3", *flags, "-o", "pan", "pan.c"]):
         subprocess.run(command, cwd=own, stdout=subprocess.DEVNULL, check=True)
     return [os.path.join(own, "pan"), "-E", *([f"-u{os.cpu_count()}"] if flags == PARALLEL else [])]
 

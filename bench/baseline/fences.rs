@@ -24,8 +24,6 @@ pub struct Fences {
     pub queues: Vec<VecDeque<Request>>,
     /// The harts that each hart inside a call waits for.
     pub calls: Vec<Option<u128>>,
-    /// What each hart asked last, and whom.
-    pub opened: Vec<(u128, Fence)>,
     pub asked: u64,
     pub applied: u64,
 }
@@ -35,7 +33,6 @@ impl Fences {
         Fences {
             queues: (0..harts).map(|_| VecDeque::with_capacity(harts)).collect(),
             calls: vec![None; harts],
-            opened: vec![(0, Fence::Words); harts],
             asked: 0,
             applied: 0,
         }
@@ -51,7 +48,6 @@ impl Fences {
             rest &= rest - 1;
         }
         self.calls[h] = Some(others);
-        self.opened[h] = (targets, fence);
         self.asked += u64::from(targets.count_ones());
         self.applied += u64::from(has(targets, h));
     }

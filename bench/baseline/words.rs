@@ -47,7 +47,7 @@ fn put_caches(out: &mut Vec<u64>, caches: &Caches) {
     }
 }
 
-/// What waits at hart `h`, and the call that it is in.
+/// What waits at hart `h`, and whether it is inside a call.
 fn put_fences(out: &mut Vec<u64>, board: &Board, h: usize) {
     let queue = &board.fences.queues[h];
     out.push(queue.len() as u64);
@@ -56,11 +56,6 @@ fn put_fences(out: &mut Vec<u64>, board: &Board, h: usize) {
         put_fence(out, *fence);
     }
     out.push(u64::from(board.fences.calls[h].is_some()));
-    if board.fences.calls[h].is_some() {
-        let (asked, fence) = board.fences.opened[h];
-        put_set(out, asked);
-        put_fence(out, fence);
-    }
 }
 
 /// Puts the words of a board into a list.
