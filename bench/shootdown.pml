@@ -7,7 +7,7 @@
 byte left[HARTS];           /* the operations of its block that a hart hasn't done */
 bit is_start_pending[HARTS];
 bit is_started[HARTS];
-byte entry[HARTS];          /* the leaf in a hart's TLB; 0: none */
+byte entry[HARTS];          /* the leaf in a hart's TLB; 0: none, or the hart loads no more */
 bit has_fence[HARTS];       /* a fence waits at a hart */
 bit is_in_call;             /* hart 0 is inside its fence call */
 byte waiting;               /* how many fences wait */
@@ -39,7 +39,8 @@ inline change() {
 #define HART(h) \
     :: d_step { is_start_pending[h] -> is_start_pending[h] = 0; is_started[h] = 1; left[h] = 1 + LOADS } \
     :: d_step { has_fence[h] -> has_fence[h] = 0; waiting--; entry[h] = 0 } \
-    :: d_step { is_started[h] && left[h] > 0 -> if :: left[h] <= LOADS && entry[h] == 0 -> entry[h] = leaf :: else fi; left[h]-- }
+    :: d_step { is_started[h] && left[h] > 0 -> \
+        if :: left[h] == 1 -> entry[h] = 0 :: left[h] > 1 && left[h] <= LOADS && entry[h] == 0 -> entry[h] = leaf :: else fi; left[h]-- }
 
 active proctype board() {
     do

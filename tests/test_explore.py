@@ -243,7 +243,7 @@ class Explore(Test):
         if missing := [it for it in ("spin", "gcc") if shutil.which(it) is None]:
             self.skipTest(f"there is no {missing[0]}")
         found = subprocess.run([sys.executable, os.path.join(ROOT, "bench/spin.py"), "--agree", "--harts", "4", TESTER], capture_output=True, text=True, timeout=HANG)
-        wanted = [f"both count the same {it} of {harts} harts" for harts, it in ((2, "37 states and 53 steps"), (3, "302 states and 707 steps"), (4, "3,043 states and 10,265 steps"))]
+        wanted = [f"both count the same {it} of {harts} harts" for harts, it in ((2, "33 states and 50 steps"), (3, "228 states and 579 steps"), (4, "1,923 states and 7,098 steps"))]
         must(f"{found}", found.returncode == 0 and found.stdout.splitlines()[1:] == wanted)
 
     def test_help_of_explore_is_stored(self):

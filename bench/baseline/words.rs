@@ -58,15 +58,19 @@ fn put_fences(out: &mut Vec<u64>, board: &Board, h: usize) {
     out.push(u64::from(board.fences.calls[h].is_some()));
 }
 
-/// Puts the words of a board into a list.
-pub fn put(out: &mut Vec<u64>, board: &Board) {
+/// Puts the words of a board into a list, where these harts are idle: the caches of such a hart are as if they were empty.
+pub fn put(out: &mut Vec<u64>, board: &Board, is_idle: impl Fn(usize) -> bool) {
     for (h, hart) in board.harts.iter().enumerate() {
         out.push(hart.state as u64);
         out.push(u64::from(hart.kept.is_some()));
         out.extend(hart.kept.into_iter().flat_map(|(addr, opaque)| [addr, opaque]));
         put_if(out, hart.deadline);
         out.push(hart.satp);
-        put_caches(out, &hart.caches);
+        if is_idle(h) {
+            out.push(0);
+        } else {
+            put_caches(out, &hart.caches);
+        }
         put_fences(out, board, h);
     }
     for harts in [board.sstatus_sie, board.ssie, board.stie, board.ssip] {
