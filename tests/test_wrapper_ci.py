@@ -111,13 +111,23 @@ class ManyRuns(Test):
         must(f"{found}", found.stdout.split(None, 1) == ["2", "FILE: line 3: end quiet: fails in some of 1,000 orders of unknown many\n"] and not found.stderr)
 
     def test_the_makefile_of_many_runs(self):
-        """It counts the statuses of each script, and fails where there is none."""
+        """It counts the statuses of each script, runs one again that was changed, and fails where there is none."""
         if shutil.which("make") is None:
             raise SkipTest("make is missing")
         put(os.path.join(self.room, "many.mk"), read(PAGE).partition("`many.mk`:\n\n```make\n")[2].partition("```")[0])
+        script, statuses = os.path.join(self.room, "scripts/one.program"), os.path.join(self.room, "results/one.program.1.status")
         put(os.path.join(self.room, "sbiboard"), "#!/bin/sh\nexit 4\n")
         os.chmod(os.path.join(self.room, "sbiboard"), 0o755)
-        put(os.path.join(self.room, "scripts/one.program"), "")
-        for folder, status, printed, said in (("scripts", 0, "1 4 one.program", ""), ("none", 2, "", "no script in none")):
+        put(script, "")
+
+        def must_print(folder, status, printed, said):
             found = subprocess.run(["make", "-f", "many.mk", f"SCRIPTS={folder}"], cwd=self.room, capture_output=True, text=True, timeout=60)
             must(f"{folder}: {found}", found.returncode == status and found.stdout.strip() == printed and said in found.stderr)
+
+        must_print("scripts", 0, "1 4 one.program", "")
+        must_print("none", 2, "", "no script in none")
+        put(os.path.join(self.room, "sbiboard"), "#!/bin/sh\nexit 5\n")
+        must_print("scripts", 0, "1 4 one.program", "")
+        later = os.stat(statuses).st_mtime_ns + 1_000_000_000
+        os.utime(script, ns=(later, later))
+        must_print("scripts", 0, "1 5 one.program", "")
