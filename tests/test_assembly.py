@@ -6,6 +6,7 @@ import random
 import re
 import shutil
 import subprocess
+from xml.etree import ElementTree
 
 from . import assembly_model
 from .fixtures import EXAMPLES, NO_MEMORY, PROGRAM, ROOT, Test, allocating, at_once, must, program_of, read, shim, write
@@ -372,11 +373,9 @@ class AssemblyWrapper(Test):
         for task in ("test", "run", "replay", "check"):
             found = ran_script(self.room, [front, task, "a.s"])
             must(f"{task}: {found}", found == (1, "", SAID.format("a.s", task)))
-        for option in ("--html", "--junit", "--tap"):
-            found = ran_script(self.room, [front, "explore", option, "x", "a.s"])
+        for option, *value in (("--seconds", "1"), ("--needed",), ("--explain",), ("--no-outcomes",)):
+            found = ran_script(self.room, [front, "explore", option, *value, "a.s"])
             must(f"{option}: {found}", found == (2, "", f"sbiboard: {option} doesn't take programs in assembly, such as a.s\n"))
-        for option in ("--needed", "--explain", "--no-outcomes"):
-            must(f"{option}", ran_script(self.room, [front, "explore", option, "a.s"])[0] == 2)
         found = ran_script(self.room, [front, "explore", "a.program", "a.s"])
         must(f"{found}", found == (2, "", "sbiboard: a.program: no program in assembly, and so not beside a.s\n"))
         found = ran_script(self.room, [front, "explore", "none.s"])
@@ -392,3 +391,30 @@ class AssemblyWrapper(Test):
         rows = [json.loads(it) for it in found.stdout.splitlines()]
         point = next(it for it in rows if it.get("kind") == "point") if len(rows) > 1 else None
         must(f"{found}", found.returncode == 1 and point and not point["ok"] and point["condition"] == "end quiet" and point["details"]["stuck"][0].startswith("hart 1: lost-wakeup.s:30: wfi"))
+
+    def test_points_of_assembly_in_files(self):
+        """`--tap`, `--junit` and `--html` have the points that are printed; no FILE is written over."""
+        if not os.access(EXPLORER, os.X_OK):
+            self.skipTest("asm_orders isn't built")
+        path = os.path.join(GUESTS, "spin-flag.s")
+
+        def ran(*words):
+            found = subprocess.run([os.path.join(ROOT, "sbiboard"), "explore", "--failed", self.room, *words], cwd=self.room, capture_output=True, text=True, timeout=120)
+            return found.returncode, found.stdout, found.stderr
+
+        status, out, said = ran("--tap", "tap", "--junit", "xml", "--html", "pages", path)
+        must(f"{status}, {out}", status == 1 and out.startswith("TAP version 13\n") and read(os.path.join(self.room, "tap")) == out)
+        must(f"{said}", said == "sbiboard: pages/index.html lists the points that fail (1, and 1 drawn)\n")
+        suites = ElementTree.parse(os.path.join(self.room, "xml")).getroot()
+        must(f"{suites.attrib}", (suites.get("tests"), suites.get("failures"), suites.get("errors")) == ("3", "1", "0"))
+        page = read(os.path.join(self.room, "pages", "spin-flag.s.2.failed.html"))
+        must("each step has its instruction", all(f"spin-flag.s:{it}" in page for it in (15, 18, 24, 26)))
+        status, out, said = ran("--tap", "tap", "--tap-version", "14", path)
+        must(f"{status}, {out}, {said}", status == 1 and out.startswith("TAP version 14\n") and read(os.path.join(self.room, "tap")) == out)
+        status, out, _ = ran("--tap", "tap", "--json", path)
+        must(f"{status}, {out}", json.loads(out.splitlines()[0])["task"] == "explore" and len(points(read(os.path.join(self.room, "tap")).splitlines())) == 3)
+        copy = os.path.join(self.room, "a.s")
+        write(copy, LOADS)
+        must("no FILE is written over", ran("--tap", "a.s", "a.s") == (7, "", "sbiboard: a.s: entity already exists\n") and read(copy) == LOADS)
+        must("a full device", ran("--tap", "/dev/full", "a.s")[::2] == (7, "sbiboard: /dev/full: No space left on device\n"))
+        must("a folder that isn't there", ran("--tap", "none/tap", "a.s") == (7, "", "sbiboard: none/tap: No such file or directory\n"))

@@ -156,7 +156,8 @@ def of_assembly(command, given):
     others = [it for it in given[""] if it not in names]
     if others:
         raise Ended(USAGE, f"sbiboard: {others[0]}: no program in assembly, and so not beside {names[0]}\n")
-    unknown = [it for it in command.options if it.name in given and it not in EXPLORE_ASSEMBLY.options]
+    known = {it.name for it in EXPLORE_ASSEMBLY.options}
+    unknown = [it for it in command.options if it.name in given and it.name not in known]
     if unknown:
         raise Ended(USAGE, f"sbiboard: --{unknown[0].name} doesn't take programs in assembly, such as {names[0]}\n")
     return EXPLORE_ASSEMBLY

@@ -184,9 +184,10 @@ EXPLORE = Command(
     ),
     (OF_TESTER, "AFTER_EXPLORE"), Option("", "Programs, with their conditions", value="FILE", is_many=True), TESTER, ("program", "assembly"),
 )  # fmt: skip
-# What it knows where its FILEs are programs in assembly.
+# What it knows where its FILEs are programs in assembly. (Their program has no `--tap`: the script copies what it prints.)
 EXPLORE_ASSEMBLY = replace(
-    EXPLORE, options=tuple(it for it in EXPLORE.options if it in (FAILED, TAP_VERSION, JSON, HELP) or it.name == "states"),
+    EXPLORE,
+    options=tuple(replace(it, is_own=it.is_own or it == TAP) for it in EXPLORE.options if it in (FAILED, TAP, TAP_VERSION, JUNIT, HTML, JSON, HELP) or it.name == "states"),
     program=ASSEMBLER, kinds=("program", "schedule", "trace"),
 )  # fmt: skip
 

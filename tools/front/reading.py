@@ -13,7 +13,7 @@ import tempfile
 import threading
 from concurrent.futures import ThreadPoolExecutor
 
-from commands import AT, DIFF, EXPLAIN, HTML, JSON, JUNIT, NEEDED, PROGRAM, TAP_VERSION
+from commands import AT, DIFF, EXPLAIN, HTML, JSON, JUNIT, NEEDED, PROGRAM, TAP, TAP_VERSION
 from kinds import MOST_BYTES, lines_of, why_unread
 
 # (what reads printed lines is of use where such an option is given alone)
@@ -234,6 +234,8 @@ class Points:
         self.files = [STDIN if it == "-" else it for it in given[""]]
         # What the program has said on standard error, where that is read.
         self.said = ""
+        # Whether the script copies the points into their file, for a program that doesn't.
+        self.copies = any(it.name == TAP.name for it in command.own)
 
     def asked(self, name):
         """The value of an option, or None."""
@@ -254,11 +256,12 @@ class Points:
 
     def done(self):
         """Runs the program, and does what is asked for. Returns the status, and what is left to say."""
-        tap, folder, junit = self.asked("tap"), self.asked(HTML.name), self.asked(JUNIT.name)
+        tap, folder, junit = self.asked(TAP.name), self.asked(HTML.name), self.asked(JUNIT.name)
         if STDIN in self.files and sys.stdin is None:
             return BAD_FILE, CLOSED
-        if junit and any(is_same(junit, it) for it in [*self.files, *([tap] if tap else [])]):
-            return BAD_FILE, f"sbiboard: {junit}: entity already exists\n"
+        for path, others in ((junit, [*self.files, *([tap] if tap else [])]), (tap if self.copies else None, self.files)):
+            if path and any(is_same(path, it) for it in others):
+                return BAD_FILE, f"sbiboard: {path}: entity already exists\n"
         if folder and (why := why_no_folder(folder)):
             return BAD_FILE, f"sbiboard: {folder}: {why}\n"
         is_read = folder or junit or tap and self.asked(TAP_VERSION.name) == "14"
@@ -278,10 +281,10 @@ class Points:
                 room.enter_context(place(junit))
             if is_read and not tap:
                 tap = os.path.join(room.enter_context(tempfile.TemporaryDirectory(prefix="sbiboard-points.")), "tap")
-                self.words[1:1] = ["--tap", tap]
+                self.words[1:1] = [] if self.copies else ["--tap", tap]
             stdin = room.enter_context(kept_input()) if STDIN in self.files else None
             before = written_at(tap)
-            status = self.stream(stdin)
+            status = self.stream(stdin, room.enter_context(open(tap, "wb", buffering=0)) if self.copies and tap else None)
             # (an older file of points says nothing of this run)
             lines = read_lines(tap) if is_read and written_at(tap) != before else []
             said = self.behind(status, lines, folder, junit) + (self.explained(stdin) if EXPLAIN.name in self.given and status >= 0 else "")
@@ -292,29 +295,30 @@ class Points:
             os.kill(os.getpid(), signal.SIGPIPE)
         return status, said
 
-    def stream(self, stdin):
-        """Runs the program, whose points go through as they come. Returns its status."""
+    def stream(self, stdin, copy):
+        """Runs the program, whose points go through as they come, also into a file where the script copies them. Returns its status."""
         how = {"executable": self.program, "stdin": stdin}
         is_json, is_14 = JSON.name in self.given, self.asked(TAP_VERSION.name) == "14" and not os.isatty(1)
-        if not is_json and not is_14:
+        if not is_json and not is_14 and copy is None:
             return subprocess.run(encoded(self.words), check=False, **how).returncode
         # (on a terminal it shows the progress)
         is_heard = is_json and sys.stderr is not None and not os.isatty(2)
         with subprocess.Popen(encoded(self.words), stdout=subprocess.PIPE, stderr=subprocess.PIPE if is_heard else None, **how) as run:
+            lines = run.stdout if copy is None else copied(run.stdout, copy)
             if is_json:
                 from json_lines import of_items
                 from points import read_points
 
                 hearing = threading.Thread(target=self.hear, args=[run.stderr if is_heard else ()])
                 hearing.start()
-                for it in of_items(read_points((it.decode("utf-8", "surrogateescape") for it in run.stdout), self.files)):
+                for it in of_items(read_points((it.decode("utf-8", "surrogateescape") for it in lines), self.files)):
                     written(it)
                 hearing.join()
             else:
-                first = run.stdout.readline()
                 with output("wb") as file:
-                    file.write(TAP_14 if first == TAP_13 else first)
-                    shutil.copyfileobj(run.stdout, file)
+                    for line in lines:
+                        file.write(TAP_14 if is_14 and line == TAP_13 else line)
+                        file.flush()
         return run.returncode
 
     def hear(self, lines):
@@ -356,6 +360,19 @@ class Points:
                     with open(name.encode(), "rb") as file:
                         said += explained(self.program, self.command, name, file.read(MOST_BYTES + 1))
         return said
+
+
+def copied(lines, file):
+    """The lines, each of which is written into the file."""
+    for line in lines:
+        left = line
+        try:
+            while left:
+                left = left[file.write(left) :]
+        except OSError as error:
+            # (a write that fails doesn't name its file)
+            raise OSError(error.errno, error.strerror, file.name) from None
+        yield line
 
 
 def kept_input():
