@@ -137,10 +137,12 @@ def done_alone(option, words):
 
 def installed(folder):
     try:
-        install(os.fsdecode(folder.encode()))
+        has_assembler = install(os.fsdecode(folder.encode()))
     except OSError as error:
         raise Ended(BAD_FILE, f"sbiboard: {error.filename or folder}: {error.strerror or 'not all could be copied'}\n") from None
-    return ended(0, f"sbiboard: {folder}/sbiboard runs the programs beside it, which need the C library alone; help, and options that these programs don't have, also Python 3\n")
+    said = f"sbiboard: {folder}/sbiboard runs the programs beside it, which need the C library alone; help, and options that these programs don't have, also Python 3\n"
+    lack = "" if has_assembler else "sbiboard: without that of programs in assembly, which the first './sbiboard explore FILE.s' here builds\n"
+    return ended(0, said + lack)
 
 
 # ---- FILEs

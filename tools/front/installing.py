@@ -17,7 +17,8 @@ NEEDED = ("timeline", "timeline.html")
 
 
 def install(folder):
-    """Copies the programs, which are built first where that is needed. Where SBIBOARD_PROGRAM names one, nothing is built."""
+    """Copies the programs, which are built first where that is needed. Where SBIBOARD_PROGRAM names one, nothing is built. Returns
+    whether that of programs in assembly is among them: it is only if it is built."""
     # (what can't be a folder isn't worth a build)
     os.makedirs(folder, exist_ok=True)
     program, tester = os.environ.get("SBIBOARD_PROGRAM") or program_of(PROGRAM), program_of(TESTER)
@@ -41,6 +42,7 @@ def install(folder):
             file.write(made(INSTALLED))
     # (the last, so that a copy that has it is whole)
     put(os.path.join(HERE, "launcher"), script)
+    return is_current(program_of(ASSEMBLER), ASSEMBLER)
 
 
 def put(source, target):
