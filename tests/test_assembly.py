@@ -21,6 +21,7 @@ FAILING = {
     "lazy-tlb.s": (2, "1 load 0x1000 -> value 0x33    # lazy-tlb.s:54: ld t2, 0(s0)"),
     "spin-flag.s": (2, "1 load 0x80002000 -> value 0x0    # spin-flag.s:26: ld t1, 0(s0)"),
     "lost-wakeup.s": (2, None),
+    "walked-ahead.s": (3, "1 load 0x1000 -> value 0x22    # walked-ahead.s:51: ld t1, 0(s0)"),
 }
 # How many random programs are explored, and the values whose loads are asked for.
 PROGRAMS, VALUES = 60, range(4)
@@ -59,7 +60,11 @@ POINTS = (
     ("can end quiet", True, ": holds in all orders"), ("can end off", False, ": fails"), ("before 0 ecall, 1 load", True, ": holds in all orders"), ("before 1 load, 0 store", False, ": fails"),
     ("never 9 load", False, ": the board has no hart 9"), ("maybe never 9 load", False, ": the board has no hart 9"), ("never 1 sip -> done", False, ": no sip has the reply done"), ("never c load", False, ": no load is the clock's"),
 )  # fmt: skip
-MARKED = ("never 1 load -> stale", "never missed", "steady", "never stale", "some 1 load -> unsteady", "never 1 load after 1 load -> stale")
+# What asks of marks that nothing tells.
+UNTOLD = "of guests in assembly nothing tells what is missed, unfirm or unlenient"
+MARKED = ("never missed", "never 1 load -> missed", "firm", "lenient", "some 1 load -> unfirm", "never 1 load after 1 load -> missed")
+# Where hart 1 has a page's entry or hasn't, and is fenced or isn't: whether its later load is steady, isn't stale, and has the new value.
+TOUCHED = (("ld t1, 0(s0)", True, (True, True, True)), ("ld t1, 0(s0)", False, (False, False, False)), ("", True, (True, True, True)), ("", False, (False, True, True)))
 # No order ends: hart 0 begins anew again and again, or spins on a word that nobody stores.
 ENDLESS = (
     "        .board 1, 1, 50, 0, 0x80000000, 0\n        .org 0x80000000\n        li a7, 0x53525354\n        li a6, 0\n        li a0, 2\n        li a1, 0\n        ecall\n",
@@ -255,13 +260,32 @@ data:   .byte   1, 0, -1
         must(f"{status}, {lines}", points(lines) == ["not ok 1 - a.s:1:17: not a number: 'pages'"] and status == 1)
 
     def test_marks_of_guests(self):
-        """A condition that asks of marks isn't judged, which is no success."""
+        """What any TLB may hold is judged by all orders; what isn't told is no success."""
         for asked in MARKED:
             lines, status = of_text(self.room, f"#! {asked}\n#! end quiet\n{LOADS}")
-            must(f"{asked}: {status}, {lines}", points(lines)[0] == f"not ok 1 - a.s: line 1: {asked}: not judged: no marks are told of guests in assembly" and status == 8)
+            must(f"{asked}: {status}, {lines}", points(lines)[0] == f"not ok 1 - a.s: line 1: {asked}: not judged: {UNTOLD}" and status == 8)
             must(f"{asked}: {lines}", "# 2 points, 0 failed, 1 not judged" in lines)
-        lines, status = of_text(self.room, f"#! steady\n#! end off\n{LOADS}")
+        lines, status = of_text(self.room, f"#! never missed\n#! end off\n{LOADS}")
         must(f"{status}, {lines}", status == 1)
+        for asked in ("steady", "never stale", "never 1 load -> stale"):
+            lines, status = of_text(self.room, f"#! {asked}\n{LOADS}")
+            must(f"{asked}: {status}, {lines}", ": vacuous: " in points(lines)[0] and status == 1)
+            lines, status = of_text(self.room, f"#! maybe {asked}\n{LOADS}")
+            must(f"{asked}: {status}, {lines}", points(lines)[0].endswith(": holds in all orders") and status == 0)
+        fetches = LOADS.replace("ld      t1, 0(s0)", "fetch   t1, 0(s0)")
+        lines, status = of_text(self.room, f"#! steady\n{fetches}")
+        must(f"{status}, {lines}", points(lines) == ["not ok 1 - a.s: line 1: steady: not judged: the program fetches, and then nothing tells marks of guests in assembly"] and status == 8)
+
+    def test_marks_of_a_page_that_is_touched_or_not(self):
+        text = "\n".join(it for it in read(os.path.join(GUESTS, "walked-ahead.mended.s")).splitlines() if not it.startswith("#!")) + "\n"
+        fence = next(it for it in text.splitlines() if "remote_sfence_vma" in it)
+        asked = ("steady", "never 1 load 0x1000 -> stale", "some 1 load 0x1000 -> value 0x22", "end quiet", "never 1 load 0x1000 -> stale after 0 store 0x80003008")
+        for touch, is_fenced, wanted in TOUCHED:
+            changed = text.replace("sfence.vma ", f"sfence.vma; li s0, 0x1000; {touch}; nop #") if touch else text
+            changed = changed if is_fenced else changed.replace(fence, "")
+            lines, status = of_text(self.room, "".join(f"#! {it}\n" for it in asked) + changed)
+            found = [it.startswith("ok ") for it in points(lines)]
+            must(f"{touch!r}, {is_fenced}: {lines}", found[:4] == [*wanted, True] and found[4] == wanted[1] and status == int(not all(found)))
 
     def test_guests_without_an_end(self):
         """`end`, and a file without conditions, aren't met by orders without an end."""

@@ -10,11 +10,12 @@ from .test_assembly import explored, points
 EXPLORER = program_of("asm_orders")
 # Where the code of blocks stands, within reach of a jump from the RAM, and not in it; and how far apart blocks must be.
 BODIES, ROOM = 0x80080000, 4
-# Words of conditions that ask of marks, and AMOs of assembly without their width.
-MARKS = re.compile(r"\b(?:stale|missed|unsteady|unfirm|unlenient|steady|firm|lenient)\b")
+# Words of conditions that ask of what isn't told of guests in assembly.
+UNTOLD = re.compile(r"\b(?:missed|unfirm|unlenient|firm|lenient)\b")
 STORES = {"store": "sd", "store4": "sw", "store2": "sh", "store1": "sb"}
-# What is asked of each program beside its own conditions.
+# What is asked of each program beside its own conditions, and of those that fetch nothing.
 ASKED = ("maybe end quiet", "maybe end quiet stuck", "can end quiet", "can end stuck", "maybe end off")
+OF_MARKS = ("maybe steady", "maybe never stale", "maybe some _ load -> stale", "maybe never _ store -> unsteady", "maybe never _ load -> stale after _ load -> unsteady", "maybe each _ load -> unsteady")
 ACCESSES = ("load", "store", "fetch", "store4", "store2", "store1", *(f"amo{it}{width}" for width in ("", ".w") for it in ("swap", "add", "and", "or", "xor", "min", "max", "minu", "maxu")), "amocas")
 NO_FAULT = [f"maybe never _ {it} -> fault" for it in ACCESSES]
 # How many random programs are tried, and how many of their states at most.
@@ -97,7 +98,7 @@ def is_alike(room, name, lines, conditions):
     if found is None:
         return False
     board, blocks = found
-    conditions = [*conditions, *ASKED, *NO_FAULT]
+    conditions = [*conditions, *ASKED, *(() if any(it.startswith("fetch") for it in lines) else OF_MARKS), *NO_FAULT]
     write(os.path.join(room, f"{name}.program"), "".join(f"#! {it}\n" for it in conditions) + "\n".join(lines) + "\n")
     write(os.path.join(room, f"{name}.s"), in_assembly(board, blocks, conditions))
     _, said = told_of(room, "--no-outcomes", "--states", str(MOST), f"{name}.program", name="sbiboard explore")
@@ -116,14 +117,14 @@ class AssemblyOfBlocks(Test):
     programs = (EXPLORER, TESTER)
 
     def test_examples_of_blocks_in_assembly(self):
-        """The conditions of each example, but for those that ask of marks."""
+        """The conditions of each example, but for those that ask of what isn't told of guests in assembly."""
         paths = [it for folder in ("", "orders", "tlb") for it in sorted(glob.glob(os.path.join(EXAMPLES, folder, "*.program")))]
 
         def is_tried(path):
             lines = read(path).splitlines()
             conditions = [it[2:].partition("#")[0].strip() for it in lines if it.startswith("#!")]
             name = os.path.relpath(path, EXAMPLES).replace(os.sep, "-").removesuffix(".program")
-            return is_alike(self.room, name, [it for it in lines if not it.startswith("#")], [it for it in conditions if not MARKS.search(it)])
+            return is_alike(self.room, name, [it for it in lines if not it.startswith("#")], [it for it in conditions if not UNTOLD.search(it)])
 
         tried = at_once(is_tried, paths)
         must(f"{sum(tried)} of {len(paths)} are tried", sum(tried) >= 40)

@@ -9,6 +9,7 @@ mod finding;
 mod judging;
 mod loader;
 mod loading;
+mod marked;
 mod naming;
 mod records;
 mod source;

@@ -1,0 +1,58 @@
+# A page is given to somebody else while hart 1 hasn't touched it yet, mended: hart 1's TLB may have walked ahead, so it is fenced.
+#! steady                               # whatever TLB hart 1 has
+#! never _ load _ -> stale
+#! some 1 load 0x1000 -> value 0x22
+#! end quiet
+        .board  2, 16, 1000, 0, 0x80000000, 0
+        .equ    HSM, 0x48534d
+        .equ    RFENCE, 0x52464e43
+        .equ    flags, 0x80006000       # two words, which hart 1 has at 0x2000: hart 1 has the tables; the page is another one
+
+        .org    0x80000000
+boot:   li      t0, 0x80001000
+        li      t1, 0x20000801
+        sd      t1, 0(t0)               # the root table's first entry points to the table at 0x80002000
+        li      t0, 0x80002000
+        li      t1, 0x20000c01
+        sd      t1, 0(t0)               # whose first entry points to the table at 0x80003000
+        li      s2, 0x80003000
+        li      t1, 0x200010c7
+        sd      t1, 8(s2)               # whose second entry maps page 0x1000 to 0x80004000
+        li      t1, 0x200018c7
+        sd      t1, 16(s2)              # and the third one page 0x2000 to the flags
+        li      t0, 0x80005000
+        li      t1, 0x22
+        sd      t1, 0(t0)               # what stands in the page that takes the place of the first one
+        li      a7, HSM
+        li      a6, 0
+        li      a0, 1
+        la      a1, other
+        li      a2, 0
+        ecall                           # hart_start
+        li      s0, flags
+1:      ld      t0, 0(s0)
+        beqz    t0, 1b                  # until hart 1 has the tables
+        li      t1, 0x200014c7
+        sd      t1, 8(s2)               # page 0x1000 is 0x80005000 from now on
+        li      a7, RFENCE
+        li      a6, 1
+        li      a0, 2
+        li      a1, 0
+        li      a2, 0x1000
+        li      a3, 0x1000
+        ecall                           # remote_sfence_vma of this page to hart 1
+        li      t0, 1
+        sd      t0, 8(s0)
+        ebreak
+
+other:  li      t0, 0x8000500000080001
+        csrw    satp, t0                # Sv39, ASID 5, the root table at 0x80001000
+        sfence.vma                      # walks see the tables from here on
+        li      s1, 0x2000
+        li      t0, 1
+        sd      t0, 0(s1)
+2:      ld      t0, 8(s1)
+        beqz    t0, 2b                  # until the page is another one
+        li      s0, 0x1000
+        ld      t1, 0(s0)
+        ebreak
