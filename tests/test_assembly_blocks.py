@@ -15,7 +15,7 @@ UNTOLD = re.compile(r"\b(?:missed|unfirm|unlenient|firm|lenient)\b")
 STORES = {"store": "sd", "store4": "sw", "store2": "sh", "store1": "sb"}
 # What is asked of each program beside its own conditions, and of those that fetch nothing.
 ASKED = ("maybe end quiet", "maybe end quiet stuck", "can end quiet", "can end stuck", "maybe end off")
-OF_MARKS = ("maybe steady", "maybe never stale", "maybe some _ load -> stale", "maybe never _ store -> unsteady", "maybe never _ load -> stale after _ load -> unsteady", "maybe each _ load -> unsteady")
+OF_MARKS = ("steady", "never stale", "some _ load -> stale", "never _ store -> unsteady", "never _ load -> stale after _ load -> unsteady", "each _ load -> unsteady", "maybe steady", "maybe never _ load -> stale")
 ACCESSES = ("load", "store", "fetch", "store4", "store2", "store1", *(f"amo{it}{width}" for width in ("", ".w") for it in ("swap", "add", "and", "or", "xor", "min", "max", "minu", "maxu")), "amocas")
 NO_FAULT = [f"maybe never _ {it} -> fault" for it in ACCESSES]
 # How many random programs are tried, and how many of their states at most.
