@@ -32,7 +32,7 @@ SHAPES = {
     "3.LB": (("rx wy1", "ry wz1", "rz wx1"), "", "000 001 010 011 100 101 110"),
     "IRIW": (("wx1", "wy1", "rx ry", "ry rx"), "", "0000 0001 0010 0011 0100 0101 0110 0111 1000 1001 1011 1100 1101 1110 1111"),
     "two adds": (("+x1", "+x1"), "x", "012 102"),
-    "an add and a write": (("+x1", "wx2"), "x", "02 03 23"),
+    "an add and a write": (("+x1", "wx2"), "x", "02 23"),
 }  # fmt: skip
 # Where the variables stand, the word in which harts add up what they read, and that of the outcome.
 X, SUM, OUTCOME = 0x80002000, 0x80002040, 0x80002048
