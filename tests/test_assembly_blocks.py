@@ -3,6 +3,8 @@ import glob
 import os
 import re
 
+from board_model import SRST
+
 from .fixtures import EXAMPLES, TESTER, Test, at_once, must, program_of, read, told_of, write
 from .random_programs import Maker
 from .test_assembly import explored, points
@@ -26,9 +28,13 @@ def values(*pairs):
     return "; ".join(f"li {register}, {value:#x}" for register, value in pairs)
 
 
+def numbered(word):
+    return int(word, 16 if word.lower().startswith("0x") else 10)
+
+
 def done(words):
     """An operation as instructions. What they leave in registers is 0, so that a state has nothing more than that of a block."""
-    name, numbers = words[0], [None if it == "-" else int(it, 16) if it.lower().startswith("0x") else int(it) for it in words[1:]]
+    name, numbers = words[0], [None if it == "-" else numbered(it) for it in words[1:]]
     if name == "load":
         return f"{values(('t0', numbers[0]))}; ld zero, 0(t0); li t0, 0"
     if name == "fetch":
@@ -67,7 +73,7 @@ def blocks_of(lines):
         elif words[0] == "clock":
             return None
         elif words[0] == "at":
-            blocks.append((int(words[1], 0 if words[1].lower().startswith("0x") else 10), []))
+            blocks.append((numbered(words[1]), []))
         else:
             blocks[-1][1].append(words)
     blocks.sort()
@@ -78,7 +84,7 @@ def blocks_of(lines):
 def in_assembly(board, blocks, conditions):
     """The program. A fault goes on behind its instruction."""
     out = [f"#! {it}" for it in conditions]
-    out.append("        .board  " + ", ".join(str(int(it, 16) if it.lower().startswith("0x") else int(it)) for it in board))
+    out.append("        .board  " + ", ".join(str(numbered(it)) for it in board))
     for at, _ in blocks:
         out += [f"        .org    {at:#x}", f"        j       body_{at:x}"]
     out += [f"        .org    {BODIES:#x}", "handler: csrr t0, sepc; addi t0, t0, 4; csrw sepc, zero; csrw scause, zero; csrw stval, zero; jr t0"]
@@ -108,8 +114,10 @@ def is_alike(room, name, lines, conditions):
     if not states:
         return False
     must(f"{name}: {[(it, a, b) for it, a, b in zip(conditions, by_blocks, by_assembly) if a != b]}", len(by_blocks) == len(conditions) and by_blocks == by_assembly)
-    # (a fault leaves SPP, which the guest of a block hasn't)
-    must(f"{name}: {states}, {more}", states == more or not all(by_blocks[-len(NO_FAULT) :]))
+    # (a fault leaves SPP, which the guest of a block hasn't; and of a block nothing tells a guest that is through from one that never
+    # began, whose harts a reset makes alike)
+    resets = any(words[0] == "ecall" and numbered(words[1]) == SRST for _, operations in blocks for words in operations)
+    must(f"{name}: {states}, {more}", states == more or resets or not all(by_blocks[-len(NO_FAULT) :]))
     return True
 
 
