@@ -1,4 +1,5 @@
-"""Programs of blocks, written anew in assembly: all of their orders have the same answers, and as many states and steps."""
+"""Programs of blocks, written anew in assembly: all of their orders have the same answers, and as many states and steps; after a reset
+assembly may have more."""
 import glob
 import os
 import re
@@ -94,8 +95,9 @@ def in_assembly(board, blocks, conditions):
 
 
 def told_by(lines):
-    """Of each point whether it is ok, and how many states and steps there are."""
-    return [it.startswith("ok ") for it in points(lines)], [it for it in lines if it.startswith("# states: ")]
+    """Of each point whether it is ok, and how many states and steps there are; None: not all were seen."""
+    counts = [re.fullmatch(r"# states: (\d+), steps: (\d+)", it) for it in lines]
+    return [it.startswith("ok ") for it in points(lines)], next(((int(it[1]), int(it[2])) for it in counts if it), None)
 
 
 def is_alike(room, name, lines, conditions):
@@ -111,13 +113,12 @@ def is_alike(room, name, lines, conditions):
     other, _ = explored(room, "--states", str(2 * MOST), f"{name}.s")
     by_blocks, states = told_by(said)
     by_assembly, more = told_by(other)
-    if not states:
+    if states is None:
         return False
     must(f"{name}: {[(it, a, b) for it, a, b in zip(conditions, by_blocks, by_assembly) if a != b]}", len(by_blocks) == len(conditions) and by_blocks == by_assembly)
-    # (a fault leaves SPP, which the guest of a block hasn't; and of a block nothing tells a guest that is through from one that never
-    # began, whose harts a reset makes alike)
+    # (of a block nothing tells a guest that is through from one that never began, whose harts a reset makes alike)
     resets = any(words[0] == "ecall" and numbered(words[1]) == SRST for _, operations in blocks for words in operations)
-    must(f"{name}: {states}, {more}", states == more or resets or not all(by_blocks[-len(NO_FAULT) :]))
+    must(f"{name}: {states}, {more}", states == more or resets and more is not None and states[0] < more[0] and states[1] <= more[1])
     return True
 
 
@@ -135,7 +136,7 @@ class AssemblyOfBlocks(Test):
             return is_alike(self.room, name, [it for it in lines if not it.startswith("#")], [it for it in conditions if not UNTOLD.search(it)])
 
         tried = at_once(is_tried, paths)
-        must(f"{sum(tried)} of {len(paths)} are tried", sum(tried) >= 40)
+        must(f"{sum(tried)} of {len(paths)} are tried", sum(tried) >= 45)
 
     def test_random_blocks_in_assembly(self):
         def is_tried(seed):
@@ -143,4 +144,4 @@ class AssemblyOfBlocks(Test):
             return is_alike(self.room, f"random-{seed}", lines, [])
 
         tried = at_once(is_tried, range(SEEDS))
-        must(f"{sum(tried)} of {SEEDS} are tried", sum(tried) >= SEEDS // 4)
+        must(f"{sum(tried)} of {SEEDS} are tried", sum(tried) >= 110)
