@@ -5,6 +5,5 @@ pub mod Local
 pub mod Operations
 pub mod Replies
 pub mod Guests
-pub mod Unknowns
 pub mod Words
 pub mod Inside

@@ -84,7 +84,6 @@ impl<'t, 'a> Layout<'t, 'a> {
     {
         let scope = Scope {
             symbols: self.symbols.as_slice(),
-            highs: &[],
             statement: number,
             here: at,
             end: part.end,

@@ -8,7 +8,6 @@ mod code;
 mod data;
 mod directives;
 mod forms;
-mod highs;
 mod laws;
 mod layout;
 mod moves;
