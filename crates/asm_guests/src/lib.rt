@@ -11,6 +11,6 @@ mod state;
 mod words;
 
 pub use csrs::GuestCsrs;
-pub use guest::{AsmGuest, Code, Lost, at_entry, guest_after, next_operation, takes_interrupts};
+pub use guest::{AsmGuest, Code, Lost, at_entry, guest_after, next_operation};
 pub use state::{GuestState, RegisterContent};
 pub use words::{put_guest_words, words_tell};
