@@ -9,11 +9,8 @@ pub enum Wrong {
     BadNumber,
     /// No label or directive defines this symbol.
     UnknownSymbol,
-    /// No function of values is called so: `%hi(..)` and `%lo(..)` are; `%pcrel_hi(..)` is an operand of `auipc`, and `%pcrel_lo(..)` of
-    /// what adds 12 bits to a register.
+    /// No function of values is called so: `%hi(..)` and `%lo(..)` are.
     UnknownFunction,
-    /// No `auipc` with `%pcrel_hi(..)` stands at this label.
-    NoHighPart,
     /// A parenthesis isn't closed.
     OpenParenthesis,
     /// Too many parentheses and signs stand within one another.
@@ -46,10 +43,6 @@ pub enum Wrong {
     Backwards,
     /// No section is called so: `.text`, `.rodata`, `.data` and `.bss` are.
     UnknownSection,
-    /// The letters of `.map` are no leaf: each of r, w, x, g, a and d at most once, with r, or with x and no w.
-    BadFlags,
-    /// The page is mapped twice under one root, or its root has maps of another mode.
-    MappedTwice,
     /// The size of a section depends on where it stands.
     Unsettled,
 }

@@ -1,10 +1,7 @@
 pub mod Steps
 pub mod Csrs
-pub mod Ranges
-pub mod Pcrel
-pub mod Taken
 pub mod Operands
-pub mod Distances
+pub mod Ranges
 pub mod Shapes
 pub mod Compute
 pub mod Memory

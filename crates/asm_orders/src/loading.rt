@@ -171,7 +171,6 @@ fn statement_wrong(wrong: asm_expressions::Wrong) -> &'static str {
         Bad::BadNumber => "this is no number below 2^64",
         Bad::UnknownSymbol => "nothing defines this symbol",
         Bad::UnknownFunction => "%hi and %lo are the functions of values",
-        Bad::NoHighPart => "no auipc with %pcrel_hi stands at this label",
         Bad::OpenParenthesis => "a parenthesis isn't closed",
         Bad::TooDeep => "too many parentheses and signs stand within one another",
         Bad::ByZero => "a division by 0",
@@ -188,9 +187,6 @@ fn statement_wrong(wrong: asm_expressions::Wrong) -> &'static str {
         Bad::DefinedTwice => "the symbol is defined twice",
         Bad::Backwards => ".org goes back, or the program is too large",
         Bad::UnknownSection => ".text, .rodata, .data and .bss are the sections",
-        Bad::BadFlags =>
-            "a leaf has r, or x without w, and of r, w, x, g, a and d each at most once",
-        Bad::MappedTwice => "the page is mapped twice, or its root by another mode",
         Bad::Unsettled => "the size of a section depends on where it stands",
     }
 }

@@ -1,5 +1,5 @@
 -- The assembler's two passes over the parts: where each stands, and then what each writes. No promise rests on these definitions.
-use Rattle.std.specs.Prelude.{◌≡◌, ℕ, suc, if◌then◌else◌, List, [], ◌∷◌, ◌++◌, map, Option, Some, None, option_map, Result, Ok, Err}
+use Rattle.std.specs.Prelude.{◌≡◌, ℕ, suc, if◌then◌else◌, List, [], ◌∷◌, ◌++◌, map, Option, Some, None, Result, Ok, Err}
 use Rattle.asm_expressions.specs.declared.faults.Fault.{Fault}
 use Rattle.asm_expressions.specs.declared.faults.Wrong.TheVariants.{Backwards, Unsettled}
 use Rattle.asm_expressions.specs.declared.symbols.Symbol.{Symbol}
@@ -24,11 +24,11 @@ use Rattle.asm_program.specs.declared.stop.Stop.{Stop}
 use Rattle.asm_program.specs.declared.stop.Stop.TheVariants as stops
 use Rattle.asm_program.specs.Assembles.{Image}
 use Rattle.asm_program.specs.Layout.{PartChange, PartsReach, Standing, before_parts, ends_of, standing, reach_more}
-use Rattle.asm_program.specs.Layout.PartChange.{Stays, Moves, Enters, Goes, Defines, Reserves, Maps}
+use Rattle.asm_program.specs.Layout.PartChange.{Stays, Moves, Enters, Goes, Defines, Reserves}
 use Rattle.asm_program.specs.Parts.{Piece, piece_of}
 use Rattle.asm_program.specs.Sections.{are_settled, bases_of, zeros}
-use Rattle.asm_program.specs.Written.{AllKnown, PartWriting, known_of, part_written}
-use Rattle.asm_program.specs.Written.PartWriting.{Blank, Lines, Numbers, Ticks}
+use Rattle.asm_program.specs.Written.{PartWriting, part_written}
+use Rattle.asm_program.specs.Written.PartWriting.{Blank, Lines, Numbers}
 
 -- ---- the code's values
 
@@ -39,7 +39,6 @@ changing_of (changes.Enters section) = Enters section
 changing_of (changes.Goes to) = Goes to
 changing_of (changes.Defines symbol) = Defines (named_of symbol)
 changing_of (changes.Reserves symbol next) = Reserves (named_of symbol) next
-changing_of (changes.Maps map symbol) = Maps map (option_map named_of symbol)
 
 abbrev pub change_of : Result Change Fault → Result PartChange Fault
 change_of (Ok change) = Ok (changing_of change)
@@ -69,7 +68,6 @@ reached_of layout = record {
   counters = layout.counters;
   symbols = map named_of layout.symbols.items;
   left = layout.left.items;
-  entries = layout.entries.items;
 }
 
 abbrev pub laid_of : Layout → Laid
@@ -98,19 +96,17 @@ laid_in number laid (part ∷ parts) = laid_on (λ next. laid_in (suc number) ne
 pub record Sum : Type 0 where
   pub code : List CodeLine
   pub numbers : List Datum
-  pub ticks : List ℕ
 
 abbrev pub sum_of : Output → Sum
-sum_of output = record { code = output.code.items; numbers = output.data.items; ticks = output.ticks.items }
+sum_of output = record { code = output.code.items; numbers = output.data.items }
 
 abbrev pub nothing_written : Sum
-nothing_written = record { code = []; numbers = []; ticks = [] }
+nothing_written = record { code = []; numbers = [] }
 
 abbrev pub added : Sum → PartWriting → Sum
 added before Blank = before
 added before (Lines lines) = record before { code = before.code ++ lines }
 added before (Numbers numbers) = record before { numbers = before.numbers ++ numbers }
-added before (Ticks ticks) = record before { ticks = before.ticks ++ ticks }
 
 abbrev pub added_if : Sum → Result PartWriting Fault → Result Sum Fault
 added_if before (Err fault) = Err fault
@@ -120,30 +116,24 @@ abbrev pub sum_on : (later : Sum → Result Sum Fault) → Result Sum Fault → 
 sum_on later (Err fault) = Err fault
 sum_on later (Ok sum) = later sum
 
-abbrev pub sum_in : AllKnown → Sum → List Standing → Result Sum Fault
-sum_in known before [] = Ok before
-sum_in known before (one ∷ more) =
-    sum_on (λ next. sum_in known next more) (added_if before (part_written known one))
+abbrev pub sum_in : List Named → Sum → List Standing → Result Sum Fault
+sum_in symbols before [] = Ok before
+sum_in symbols before (one ∷ more) =
+    sum_on (λ next. sum_in symbols next more) (added_if before (part_written symbols one))
 
-abbrev pub with_before : {A : Type 0} → List A → Result (List A) Fault → Result (List A) Fault
+abbrev pub with_before : List Datum → Result (List Datum) Fault → Result (List Datum) Fault
 with_before before (Err fault) = Err fault
 with_before before (Ok more) = Ok (before ++ more)
 
 -- ---- both
 
 abbrev pub sum_after : Laid → Result Sum Fault
-sum_after laid = sum_in (known_of laid.reached laid.standings) nothing_written laid.standings
+sum_after laid = sum_in laid.reached.symbols nothing_written laid.standings
 
 abbrev pub imaged : Laid → Result Sum Fault → Result Image Fault
 imaged laid (Err fault) = Err fault
 imaged laid (Ok sum) =
-    Ok (record {
-      code = sum.code;
-      numbers = sum.numbers;
-      ticks = sum.ticks;
-      symbols = laid.reached.symbols;
-      ends = ends_of laid.reached;
-    })
+    Ok (record { code = sum.code; numbers = sum.numbers; symbols = laid.reached.symbols; ends = ends_of laid.reached })
 
 abbrev pub settled_by : (bases : Counters) → (sizes laid : Laid) → Result Image Fault
 settled_by bases sizes laid =
