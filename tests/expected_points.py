@@ -54,6 +54,10 @@ def block_places(lines):
     return found
 
 
+# A condition that asks of marks.
+OF_MARKS = re.compile(r"\b(?:stale|missed|unsteady|unfirm|unlenient|steady|firm|lenient)\b")
+
+
 class Case:
     """A program's file, and all that holds of its orders."""
 
@@ -153,6 +157,14 @@ class Case:
                 found.append(f"# line {line}: each answer to '{self.said(line)}' was an error")
         missing = sorted(entered - set(self.program.blocks))
         return found + [f"# a hart was entered at {it:#x}, where no block is" for it in missing]
+
+
+    def stale_lines(self):
+        """Of the accesses that are stale in some order, block by block, if no condition asks of marks."""
+        if any(OF_MARKS.search(it.text) for it in self.asked):
+            return []
+        lines = [line for _, block in sorted(self.program.blocks.items()) for line, _ in block]
+        return [f"# line {it}: stale in some order: a walk gives another translation; `#! never stale` tells the order" for it in lines if it in self.orders.stale]
 
 
 # What one does by an operation that has numbers.
@@ -324,7 +336,7 @@ def take_explored(case, told, point, folder, with_outcomes):
         take_outcomes(case, told, are_all)
     steps = [step for steps in case.orders.edges for step in steps]
     points = [case.orders.points[place] for place, steps in enumerate(case.orders.edges) for _ in steps]
-    told.take(*case.odd_lines(lines_of_steps(points, [step[:3] for step in steps])))
+    told.take(*case.odd_lines(lines_of_steps(points, [step[:3] for step in steps])), *case.stale_lines())
     return len(asked), failed, are_all
 
 

@@ -66,26 +66,29 @@ def done(words):
 
 
 def blocks_of(lines):
-    """The board's words, and each block: its address, and its operations; None: it has a clock, or blocks stand too close to each other."""
-    board, blocks = None, []
+    """The board's words, each block with its address and its operations, and the clock's ticks; None: blocks stand too close to each other."""
+    board, blocks, clock = None, [], (None, [])
     for words in filter(None, (it.partition("#")[0].split() for it in lines)):
         if words[0] == "board":
             board = words[1:]
         elif words[0] == "clock":
-            return None
+            block = clock
         elif words[0] == "at":
-            blocks.append((numbered(words[1]), []))
+            block = (numbered(words[1]), [])
+            blocks.append(block)
         else:
-            blocks[-1][1].append(words)
+            block[1].append(words)
     blocks.sort()
     is_apart = all(b[0] - a[0] >= ROOM for a, b in zip(blocks, blocks[1:])) and all(it[0] % 2 == 0 for it in blocks)
-    return (board, blocks) if is_apart else None
+    return (board, blocks, [numbered(it[1]) for it in clock[1]]) if is_apart else None
 
 
-def in_assembly(board, blocks, conditions):
+def in_assembly(board, blocks, ticks, conditions):
     """The program. A fault goes on behind its instruction."""
     out = [f"#! {it}" for it in conditions]
     out.append("        .board  " + ", ".join(str(numbered(it)) for it in board))
+    if ticks:
+        out.append("        .tick   " + ", ".join(f"{it:#x}" for it in ticks))
     for at, _ in blocks:
         out += [f"        .org    {at:#x}", f"        j       body_{at:x}"]
     out += [f"        .org    {BODIES:#x}", "handler: csrr t0, sepc; addi t0, t0, 4; csrw sepc, zero; csrw scause, zero; csrw stval, zero; jr t0"]
@@ -105,10 +108,10 @@ def is_alike(room, name, lines, conditions):
     found = blocks_of(lines)
     if found is None:
         return False
-    board, blocks = found
+    board, blocks, ticks = found
     conditions = [*conditions, *ASKED, *(() if any(it.startswith("fetch") for it in lines) else OF_MARKS), *NO_FAULT]
     write(os.path.join(room, f"{name}.program"), "".join(f"#! {it}\n" for it in conditions) + "\n".join(lines) + "\n")
-    write(os.path.join(room, f"{name}.s"), in_assembly(board, blocks, conditions))
+    write(os.path.join(room, f"{name}.s"), in_assembly(board, blocks, ticks, conditions))
     _, said = told_of(room, "--no-outcomes", "--states", str(MOST), f"{name}.program", name="sbiboard explore")
     other, _ = explored(room, "--states", str(2 * MOST), f"{name}.s")
     by_blocks, states = told_by(said)

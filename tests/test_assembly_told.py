@@ -18,6 +18,12 @@ STATEMENTS = (
     ("csrrc t0, sip, t1", 9, "sip is cleared by csrc without a result: write csrr, then csrc", "csrrc t0, sip, t1"),
     ("add t0, t1", 9, "these aren't the operands that it takes", "add t0, t1"), ("addi t0, t0, 2048", 9, "a value doesn't fit", "addi t0, t0, 2048"), ("beq t0, t1, 0x80000001", 9, "the target is too far away, or at an odd address", "beq t0, t1, 0x80000001"),
     (".moo 1", 9, "no directive is called so", ".moo 1"), ("a: nop\na: nop", 1, "the symbol is defined twice", "a: nop"), (".org 0x7fffffff", 9, ".org goes back, or the program is too large", ".org 0x7fffffff"),
+    ("la t0, .@plt", 17, "something stands behind an operand", "@plt"), ("beqz t0, .@plt", 19, "something stands behind an operand", "@plt"), ("jalr .@plt", 15, "something stands behind an operand", "@plt"), ("call @plt", 18, "a value is missing", ""),
+    ("addi t0, t0, %pcrel_lo(.)", 22, "no auipc with %pcrel_hi stands at this label", "%pcrel_lo(.)"), ("auipc t0, 1\n        ld t0, %pcrel_lo(. - 4)(t0)", 16, "no auipc with %pcrel_hi stands at this label", "%pcrel_lo(. - 4)(t0)"),
+    ("auipc t0, %pcrel_hi(0x100000000)", 19, "the target is too far away, or at an odd address", "%pcrel_hi(0x100000000)"), ("auipc t0, %pcrel_hi(.", 30, "a parenthesis isn't closed", ""), ("auipc t0, %pcrel_hi .", 19, "%hi and %lo are the functions of values", "%pcrel_hi ."),
+    ("li t0, %pcrel_lo(.)", 16, "%hi and %lo are the functions of values", "%pcrel_lo(.)"), ("ld t0, %pcrel_lo(.)", 16, "%hi and %lo are the functions of values", "%pcrel_lo(.)"), ("lui t0, %pcrel_hi(.)", 17, "%hi and %lo are the functions of values", "%pcrel_hi(.)"),
+    ("amoadd.d t0, t0, %pcrel_lo(.)(t0)", 26, "%hi and %lo are the functions of values", "%pcrel_lo(.)(t0)"), (".dword %pcrel_lo(.)", 16, "%hi and %lo are the functions of values", "%pcrel_lo(.)"),
+    (".tick 1, none", 18, "nothing defines this symbol", "none"), (".tick 1,", 17, "a value is missing", ""),
     (".section .moo", 18, ".text, .rodata, .data and .bss are the sections", ".moo"), ("`", 9, "no token begins so", "`"), ("\"a", 9, "a string isn't closed on its line", "\"a"), ("/* a", 9, "a comment isn't closed", "/* a"),
 )  # fmt: skip
 # Numbers of `.board` that are no board.
@@ -28,7 +34,7 @@ WORDS = ("_ after before c can each end firm lenient maybe missed never off quie
 WORDED = (
     ("end off quiet stuck", "holds in all orders"), ("can end quiet", "holds in all orders"), ("maybe never _ load _ -> value 9", "holds in all orders"), ("never 1 load after 0 store -> done", "fails"),
     ("before 0 ecall, 1 load", "holds in all orders"), ("each 0 ecall -> ret 0", "holds in all orders"), ("some 1 advance -> entry", "holds"), ("never c load", "no load is the clock's"),
-    *((asked, "not judged: of guests in assembly nothing tells what is missed, unfirm or unlenient") for asked in ("firm", "lenient", "never missed", "never 1 load -> unfirm", "never 1 load -> unlenient")),
+    *((asked, "not judged: only records tell what is missed, unfirm or unlenient: use test") for asked in ("firm", "lenient", "never missed", "never 1 load -> unfirm", "never 1 load -> unlenient")),
     *((asked, "vacuous: no step is '.*'; such a step uses no TLB entry, (and takes no page fault|takes no page fault, and fetches no word)") for asked in ("steady", "never 1 load -> stale", "never 1 load -> unsteady")),
 )  # fmt: skip
 # Conditions that name the symbol `page` before their fault: its column, what is wrong, and the word.
@@ -51,6 +57,31 @@ SLEEPERS = (
     ("li a7, 0x54494d45\n li a6, 0\n li a0, 0\n ecall\n wfi", "STARTED, SSIP is 0, STIP is 1, SSIE is 0, STIE is 0"),
     ("li a7, 0x48534d\n li a6, 3\n li a0, 0\n ecall\n ebreak", "SUSPENDED, SSIP is 0, STIP is 0, SSIE is 0, STIE is 0"),
 )  # fmt: skip
+
+
+# Programs with one instruction that an unknown value decides; its line behind the two of the board, and its text.
+UNKNOWN = (
+    ("beqz t0, 1f\n1: ebreak", 3, "beqz t0, 1f"), ("li t1, 1\nbgeu t1, t0, 1f\n1: ebreak", 4, "bgeu t1, t0, 1f"), ("jr t0", 3, "jr t0"), ("ld t1, 8(t0)", 3, "ld t1, 8(t0)"), ("lb t1, 0(t0)", 3, "lb t1, 0(t0)"),
+    ("li t1, 1\nsd t1, 0(t0)", 4, "sd t1, 0(t0)"), ("sw x0, 0(t0)", 3, "sw x0, 0(t0)"), ("li t1, 1\namoadd.d t1, t1, (t0)", 4, "amoadd.d t1, t1, (t0)"), ("li t1, 0x80002000\namocas.d t0, x0, (t1)\nebreak", 4, "amocas.d t0, x0, (t1)"),
+    ("fetch t1, 0(t0)", 3, "fetch t1, 0(t0)"), ("csrw satp, t0\nebreak", 3, "csrw satp, t0"), ("csrs sie, t0\nebreak", 3, "csrs sie, t0"), ("csrw stvec, t0\nebreak", 3, "csrw stvec, t0"), ("csrc sip, t0\nebreak", 3, "csrc sip, t0"),
+    ("sfence.vma t0, x0\nebreak", 3, "sfence.vma t0, x0"), ("sfence.vma x0, t0\nebreak", 3, "sfence.vma x0, t0"), ("li a6, 0\necall\nebreak", 4, "ecall"), ("li a7, 0x10\necall\nebreak", 4, "ecall"),
+    ("add t1, t0, a0\nsrli t1, t1, 1\nbnez t1, 1f\n1: ebreak", 5, "bnez t1, 1f"), ("mv s0, t0\nj 1f\n1: beq x0, s0, 1f\n1: ebreak", 5, "1: beq x0, s0, 1f"),
+)  # fmt: skip
+# Programs without one: a value that is moved, computed with or stored decides nothing, and one that is loaded is known.
+KNOWN = (
+    "mv t1, t0\nadd t2, t1, t0\nebreak", "li s0, 0x80002000\nsd t0, 0(s0)\nld t1, 0(s0)\nbeqz t1, 1f\n1: ebreak", "li s0, 0x80002000\namoadd.d t0, t1, (s0)\nbeqz t0, 1f\n1: ebreak", "li s0, 0x80002000\nsh t0, 0(s0)\nebreak",
+    "beqz a0, 1f\n1: beqz a1, 1f\n1: ebreak", "csrr t0, sie\nbeqz t0, 1f\n1: csrw sie, x0\ncsrwi sstatus, 0\nebreak", "sfence.vma\nsfence.vma x0, x0\nebreak", "li a7, 0x10\nli a6, 0\necall\nbeqz a0, 1f\n1: beqz a1, 1f\n1: ebreak", "jal t0, 1f\n1: addi t0, t0, 4\njr t0\nebreak",
+)  # fmt: skip
+# Calls by extension and function, and how many arguments each has (SBI 4 to 10); of 1s they return, or end their hart.
+CALLS = (
+    *((0x10, it, it == 3) for it in range(7)), (0x54494D45, 0, 1), (0x735049, 0, 2), (0x52464E43, 0, 2), (0x52464E43, 1, 4), (0x52464E43, 2, 5), (0x48534D, 0, 3), (0x48534D, 1, 0), (0x48534D, 2, 1), (0x48534D, 3, 3), (0x53525354, 0, 2),
+    (0x10, 7, 0), (0x1234, 0, 0),
+)  # fmt: skip
+
+
+def unknown_of(lines):
+    """The comments on instructions that an unknown value decides."""
+    return [it for it in lines if it.startswith("# in some order an unknown value ")]
 
 
 def lines_of(code):
@@ -192,6 +223,52 @@ class AssemblyTold(Test):
             lines, found = of_text(self.room, text + "#" * (size - len(text)))
             must(f"{size}: {found}, {lines}", found == status and (not status or points(lines) == ["not ok 1 - a.s: more than 16,777,216 bytes"]))
 
+    def test_values_that_are_unknown(self):
+        """An instruction that an unknown value decides is told with its hart, its line and its text; one that only moves or stores it isn't."""
+        for code, line, said in UNKNOWN:
+            lines, _ = of_text(self.room, f"{ONE}{lines_of(code)}")
+            must(f"{code!r}: {lines}", unknown_of(lines) == [f"# in some order an unknown value decides what hart 0 does at a.s:{line}: {said}"])
+        for code in KNOWN:
+            lines, status = of_text(self.room, f"{ONE}{lines_of(code)}")
+            must(f"{code!r}: {status}, {lines}", not unknown_of(lines) and status == 0)
+        # (of a call as many arguments count as it has)
+        for extension, function, count in CALLS:
+            for known in range(max(count - 1, 0), count + 1):
+                given = "".join(f"li a{i}, 1\n" if i < known else f"mv a{i}, t0\n" for i in range(6))
+                lines, _ = of_text(self.room, f"{ONE.replace('board 1', 'board 2')}{lines_of(f'{given}li a7, {extension}' + chr(10) + f'li a6, {function}' + chr(10) + 'ecall' + chr(10) + 'ebreak')}")
+                must(f"{extension}, {function}, {known}: {lines}", bool(unknown_of(lines)) == (known < count))
+
+    def test_unknown_values_behind_steps(self):
+        """They are told behind each step of a guest, of each hart, once for each instruction."""
+        text = LOADS.replace("        ld      t1, 0(s0)\n", "        ld      t1, 0(s0)\n        beqz    t2, 1f\n1:      bnez    t1, 1f\n1:      ld      t1, 0(s0)\n        beqz    t2, 1f\n1:\n")
+        lines, _ = of_text(self.room, text)
+        must(f"{lines}", [it.split(" does at a.s:")[1].partition(": ")[2] for it in unknown_of(lines)] == ["beqz t2, 1f", "beqz t2, 1f"] and len({*unknown_of(lines)}) == 2 and all("hart 1 does" in it for it in unknown_of(lines)))
+
+    def test_a_wfi_that_may_return(self):
+        """With the line a wfi is a step that needs no wake, and so is none that a condition finds; without it nothing changes."""
+        text = f"{ONE}{lines_of('wfi' + chr(10) + 'ebreak')}"
+        lines, status = of_text(self.room, f"#! end stuck\n{text}")
+        must(f"{status}, {lines}", status == 0)
+        for said in ("#! wfi may return", "  #!wfi  may\treturn   # as 3.3.3 allows"):
+            lines, status = of_text(self.room, f"{said}\n#! end quiet\n#! some 0 sip -> value 0\n#! maybe never 0 wfi\n{text}")
+            must(f"{status}, {lines}", status == 0 and len(points(lines)) == 3)
+            must("the record has it", "0 sip -> value 0x0    # a.s:7: wfi" in read(os.path.join(self.room, "a.s.3.reached")))
+        for wrong in ("wfi may", "wfi can return", "wfi may return soon", "never wfi may return"):
+            lines, status = of_text(self.room, f"#! {wrong}\n{text}")
+            must(f"{wrong}: {status}, {lines}", status == 1 and points(lines)[0].startswith("not ok 1 - a.s:1:"))
+        for name in sorted(os.listdir(GUESTS)):
+            if name.endswith(".mended.s") or name in ("boot-all.s", "dekker.s", "peterson.s", "spin-lock.s"):
+                lines, status = of_text(self.room, f"#! wfi may return\n{read(os.path.join(GUESTS, name))}")
+                must(f"{name}: {status}, {lines}", status == 0)
+
+    def test_stale_accesses_of_guests_are_told(self):
+        """Each instruction that is a stale access in some order is told, unless a condition asks of marks; of a steady program none."""
+        for name, asked, wanted in (("lazy-tlb.s", "", True), ("lazy-tlb.s", "#! maybe never stale\n", False), ("walked-ahead.mended.s", "", False)):
+            text = "".join(f"{it}\n" for it in read(os.path.join(GUESTS, name)).splitlines() if not it.startswith("#!"))
+            lines, _ = of_text(self.room, asked + text)
+            found = [it for it in lines if "stale in some order" in it]
+            must(f"{name}, {asked}: {lines}", bool(found) == wanted and all(re.fullmatch(r"# hart \d at a\.s:\d+: ld .*: stale in some order: a walk gives another translation; `#! never stale` tells the order", it) for it in found))
+
     def test_command_line_of_guests(self):
         """Help, faults of usage, and an output that can't be written."""
         write(os.path.join(self.room, "a.s"), LOADS)
@@ -199,6 +276,12 @@ class AssemblyTold(Test):
         found = subprocess.run(["sbiboard explore", "--help"], **how)
         must(f"{found}", found.returncode == 0 and not found.stderr)
         must_have(found.stdout, "Usage: sbiboard explore [OPTIONS] <FILE>...", "--states <N>", "[default: 1000000]", "--failed <DIR>", "[default: .]", "Exit status: 0 all hold, 1 some don't, 2 usage, 6 no memory, 7 input or output failed, 8 not all was judged or seen.")
+        found = subprocess.run(["sbiboard test", "--help"], **how)
+        must(f"{found}", found.returncode == 0 and not found.stderr)
+        must_have(found.stdout, "Usage: sbiboard test [OPTIONS] <FILE>...", "--times <N>", "[default: 1000]", "--seed <S>", "[default: 0]", "8 not all was judged.")
+        for words in (["--states", "5", "a.s"], ["--times", "x", "a.s"], ["--seed", "a.s"]):
+            found = subprocess.run(["sbiboard test", *words], **how)
+            must(f"{words}: {found}", found.returncode == 2 and not found.stdout and found.stderr.startswith("error: "))
         for words in ([], ["--states", "x", "a.s"], ["--states", "-1", "a.s"], ["--failed=", "a.s"], ["--moo", "a.s"], ["--states"]):
             found = subprocess.run(["sbiboard explore", *words], **how)
             must(f"{words}: {found}", found.returncode == 2 and not found.stdout and found.stderr.startswith("error: "))

@@ -1,5 +1,6 @@
 """What conditions say of accesses on any TLB: which are stale, which a fence call missed, and which are unsteady, of schedules and traces, and of tried orders."""
 import os
+import re
 
 from board_model import number
 
@@ -247,6 +248,19 @@ class Marks(Test):
                 if "missed" not in it:
                     wanted = condition(1, it.replace("maybe ", ""))
                     must(f"{it}: {text}", (verdicts.fewest(wanted) is None) == (met != (wanted.word == "some")))
+
+    def test_stale_accesses_of_programs_are_told(self):
+        """Behind the points of all orders each line that is stale in some order is told, and no other, unless a condition asks of marks."""
+        for text, stale in ((FORGETS, [1]), (FENCES, []), (WINDOW, [1]), (LATE, [])):
+            script = f"#! end quiet\n{text}"
+            loads = [at for at, it in enumerate(script.splitlines(), 1) if it == "load 0x1000"]
+            for way in (("sbiboard", ()), ("sbiboard explore", ("--no-outcomes",))):
+                _, _, lines = in_way(self.room, way, script)
+                found = [re.fullmatch(r"# line (\d+): stale in some order: a walk gives another translation; `#! never stale` tells the order", it) for it in lines if "stale in" in it]
+                must(f"{way}: {text}: {lines}", all(found) and [int(it[1]) for it in found] == [loads[it] for it in stale])
+            for way, asked in ((("sbiboard", ()), "maybe never stale"), (("sbiboard", ("--times", "5")), "end quiet")):
+                _, _, lines = in_way(self.room, way, f"#! {asked}\n{text}")
+                must(f"{way}: {text}: {lines}", not any("stale in" in it for it in lines))
 
     def test_a_failing_order_is_kept(self):
         """The record of the first order that fails tells the access that has the mark."""

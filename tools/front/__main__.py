@@ -15,7 +15,7 @@ from dataclasses import replace
 import usage
 from builds import NotBuilt, build, is_current, program_of
 from checked_run import run_unproved
-from commands import ALL, ALONE, ASSEMBLY, COMPLETIONS, EXPLAIN, EXPLORE, EXPLORE_ASSEMBLY, HELP, HTML, INSTALL, IS_INSTALLED, KNOWN, PROGRAM, VERSION, version
+from commands import ALL, ALONE, ASSEMBLY, COMPLETIONS, EXPLAIN, HELP, HTML, IN_ASSEMBLY, INSTALL, IS_INSTALLED, KNOWN, PROGRAM, VERSION, version
 from completions import SHELLS
 from installing import install
 from kinds import kind_of, why_unread
@@ -28,7 +28,7 @@ FAILED_IO, WRONG_KIND = "sbiboard: input or output failed\n", "sbiboard: wrong k
 
 OWN_HELP = """
 The first task proves and builds its program. For run, replay and check this takes 16 to 32 minutes on
-four processors, 26 to 52 on two; for test and explore 18 to 36 more, 29 to 58 on two. --try runs a task without proof:
+four processors, 26 to 52 on two; for test and explore 35 to 70 more, 56 to 112 on two. --try runs a task without proof:
   ./sbiboard --try test examples/orders/lost-wakeup.program
 Status 70: a program could not be built, or the checked run could not be made.
 """
@@ -141,7 +141,7 @@ def installed(folder):
     except OSError as error:
         raise Ended(BAD_FILE, f"sbiboard: {error.filename or folder}: {error.strerror or 'not all could be copied'}\n") from None
     said = f"sbiboard: {folder}/sbiboard runs the programs beside it, which need the C library alone; help, and options that these programs don't have, also Python 3\n"
-    lack = "" if has_assembler else "sbiboard: without that of programs in assembly, which the first './sbiboard explore FILE.s' here builds\n"
+    lack = "" if has_assembler else "sbiboard: without that of programs in assembly, which the first './sbiboard test FILE.s' here builds\n"
     return ended(0, said + lack)
 
 
@@ -153,16 +153,17 @@ def of_assembly(command, given):
     names = [it for it in given[""] if it.endswith(ASSEMBLY)]
     if not names:
         return command
-    if command != EXPLORE:
-        raise Ended(BAD_SCRIPT, f"sbiboard: {names[0]}: explore takes programs in assembly, {command.word} doesn't\n")
+    if command not in IN_ASSEMBLY:
+        raise Ended(BAD_SCRIPT, f"sbiboard: {names[0]}: test and explore take programs in assembly, {command.word} doesn't\n")
     others = [it for it in given[""] if it not in names]
     if others:
         raise Ended(USAGE, f"sbiboard: {others[0]}: no program in assembly, and so not beside {names[0]}\n")
-    known = {it.name for it in EXPLORE_ASSEMBLY.options}
+    of_it = IN_ASSEMBLY[command]
+    known = {it.name for it in of_it.options}
     unknown = [it for it in command.options if it.name in given and it.name not in known]
     if unknown:
         raise Ended(USAGE, f"sbiboard: --{unknown[0].name} doesn't take programs in assembly, such as {names[0]}\n")
-    return EXPLORE_ASSEMBLY
+    return of_it
 
 
 def look_at(command, given):

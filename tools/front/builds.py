@@ -317,7 +317,7 @@ def remove(path):
 
 # The minutes of a first build on four quick processors: of the program of `run`, of the tester behind it, and of the tester alone. On
 # two they are so many times as many, and so they are on slow ones.
-MINUTES, BEHIND, ALONE, ON_TWO, ON_SLOW = 16, 18, 34, 1.6, 2
+MINUTES, BEHIND, ALONE, ON_TWO, ON_SLOW = 16, 35, 51, 1.6, 2
 
 
 def takes(crate):

@@ -173,7 +173,7 @@ TEST = Command(
         number("seconds", "N", "Try orders for at most N seconds"),
         FAILED, TAP, *OF_POINTS, HELP,
     ),
-    (OF_TESTER, "AFTER"), Option("", "Programs, schedules and traces, with their conditions", value="FILE", is_many=True), TESTER, ("program", "schedule", "trace"),
+    (OF_TESTER, "AFTER"), Option("", "Programs, schedules and traces, with their conditions", value="FILE", is_many=True), TESTER, ("program", "schedule", "trace", "assembly"),
 )  # fmt: skip
 EXPLORE = Command(
     "sbiboard explore", "Look at all orders of a program, and judge its conditions",
@@ -184,12 +184,17 @@ EXPLORE = Command(
     ),
     (OF_TESTER, "AFTER_EXPLORE"), Option("", "Programs, with their conditions", value="FILE", is_many=True), TESTER, ("program", "assembly"),
 )  # fmt: skip
-# What it knows where its FILEs are programs in assembly. (Their program has no `--tap`: the script copies what it prints.)
-EXPLORE_ASSEMBLY = replace(
-    EXPLORE,
-    options=tuple(replace(it, is_own=it.is_own or it == TAP) for it in EXPLORE.options if it in (FAILED, TAP, TAP_VERSION, JUNIT, HTML, JSON, HELP) or it.name == "states"),
-    program=ASSEMBLER, kinds=("program", "schedule", "trace"),
-)  # fmt: skip
+
+
+def of_assembly(command, *names):
+    """What a task knows where its FILEs are programs in assembly: of its own options those of these names. (Their program has no `--tap`: the
+    script copies what it prints.)"""
+    known = (FAILED, TAP, TAP_VERSION, JUNIT, HTML, JSON, HELP)
+    options = tuple(replace(it, is_own=it.is_own or it == TAP) for it in command.options if it in known or it.name in names)
+    return replace(command, options=options, program=ASSEMBLER, kinds=("program", "schedule", "trace"))
+
+
+IN_ASSEMBLY = {TEST: of_assembly(TEST, "times", "seed"), EXPLORE: of_assembly(EXPLORE, "states")}
 
 # What `./sbiboard` knows.
 TRY = Option("try", "Do the following task at once, unproved, by the toolchain's checked run")

@@ -4,6 +4,7 @@ use Rattle.std.specs.Str.{bytes_eq}
 use Rattle.asm_tokens.specs.Terms.{is_local_label}
 use Rattle.asm_expressions.specs.declared.symbols.Direction.{Direction}
 use Rattle.asm_expressions.specs.declared.symbols.Direction.TheVariants.{Backward, Forward}
+use Rattle.asm_expressions.specs.declared.symbols.PcrelHigh.{PcrelHigh}
 use Rattle.asm_expressions.specs.declared.symbols.Scope.{Scope}
 use Rattle.asm_expressions.specs.declared.symbols.Symbol.{Symbol}
 
@@ -19,9 +20,11 @@ pub record Named : Type 0 where
 abbrev pub named_of : Symbol → Named
 named_of symbol = record { name = symbol.name.now; value = symbol.value; statement = symbol.statement }
 
--- the symbols; the number and the address of the expression's statement; and the number of bytes behind it
+-- the symbols; each `auipc` with `%pcrel_hi(..)`; the number and the address of the expression's statement; and the number of bytes
+-- behind it
 pub record Context : Type 0 where
   pub symbols : List Named
+  pub highs : List PcrelHigh
   pub statement : ℕ
   pub here : ℕ
   pub end : ℕ
@@ -30,6 +33,7 @@ pub record Context : Type 0 where
 abbrev pub context_of : Scope → Context
 context_of scope = record {
   symbols = map named_of scope.symbols.now;
+  highs = scope.highs.now;
   statement = scope.statement;
   here = scope.here;
   end = scope.end;

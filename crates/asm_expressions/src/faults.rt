@@ -9,8 +9,11 @@ pub enum Wrong {
     BadNumber,
     /// No label or directive defines this symbol.
     UnknownSymbol,
-    /// No function of values is called so: `%hi(..)` and `%lo(..)` are.
+    /// No function of values is called so: `%hi(..)` and `%lo(..)` are; `%pcrel_hi(..)` is an operand of `auipc`, and `%pcrel_lo(..)` of
+    /// what adds 12 bits to a register.
     UnknownFunction,
+    /// No `auipc` with `%pcrel_hi(..)` stands at this label.
+    NoHighPart,
     /// A parenthesis isn't closed.
     OpenParenthesis,
     /// Too many parentheses and signs stand within one another.

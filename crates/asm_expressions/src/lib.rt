@@ -8,6 +8,6 @@ mod symbols;
 mod values;
 
 pub use faults::{Fault, Wrong};
-pub use parts::low_part;
-pub use symbols::{Scope, Symbol, first_named};
-pub use values::value_of;
+pub use parts::{high_part, low_part};
+pub use symbols::{PcrelHigh, Scope, Symbol, first_named};
+pub use values::{left_or_end, value_of};

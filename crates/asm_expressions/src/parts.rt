@@ -48,7 +48,7 @@ pub fn low_part(value: u64) -> u64
 }
 
 /// The 20 bits that LUI takes, so that the low part added to them gives the low 4 bytes of the value.
-fn high_part(value: u64) -> u64
+pub fn high_part(value: u64) -> u64
     ensures { result ≡ high_part value }
 {
     value.wrapping_add(0x800) / 0x1000 % 0x10_0000

@@ -15,11 +15,22 @@ pub struct Symbol<'a> {
     pub statement: usize,
 }
 
+/// An `auipc` with `%pcrel_hi(..)` (RISC-V psABI, PC-Relative Symbol Addresses).
+#[derive(Clone, Copy, PartialEq, Eq)]
+pub struct PcrelHigh {
+    /// Its address.
+    pub at: u64,
+    /// How far its symbol is from there.
+    pub distance: u64,
+}
+
 /// Where an expression stands, and what is known there.
 #[derive(Clone, Copy)]
 pub struct Scope<'s, 'a> {
     /// The symbols, in the order of their statements.
     pub symbols: &'s [Symbol<'a>],
+    /// Each `auipc` with `%pcrel_hi(..)`, once all symbols are known.
+    pub highs: &'s [PcrelHigh],
     /// The number of the expression's statement.
     pub statement: usize,
     /// The address of the statement, which `.` names.

@@ -164,7 +164,7 @@ fn fault(wrong: Wrong, left: usize) -> Fault
 }
 
 /// The place of the first token, or of the end of the statement.
-fn left_or_end(scope: &Scope<'_, '_>, tokens: &[Placed<'_>]) -> usize
+pub fn left_or_end(scope: &Scope<'_, '_>, tokens: &[Placed<'_>]) -> usize
     ensures { result ≡ left_or_end (context_of scope.now) (spots_of tokens.now) }
 {
     match tokens.split_first() {

@@ -5,5 +5,6 @@ pub mod Local
 pub mod Operations
 pub mod Replies
 pub mod Guests
+pub mod Unknowns
 pub mod Words
 pub mod Inside

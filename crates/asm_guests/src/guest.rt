@@ -62,7 +62,7 @@ pub enum AsmGuest {
 }
 
 /// The most local steps without an operation.
-const MOST_STEPS: u32 = 100_000;
+pub(crate) const MOST_STEPS: u32 = 100_000;
 
 /// The guest at an entry. Where no instruction stands it has nothing to do.
 pub fn at_entry<C: Code>(code: &C, addr: u64, hart: u64, opaque: u64) -> AsmGuest

@@ -70,7 +70,7 @@ fn amo_op(state: &GuestState, name: AmoName, rd: Register, rs2: Register, at: u6
 }
 
 /// a7, a6, and a0 to a5 (SBI 3, Binary Encoding).
-fn call_registers(state: &GuestState) -> Regs
+pub(crate) fn call_registers(state: &GuestState) -> Regs
     ensures { result ≡ call_registers state.now }
 {
     Regs {

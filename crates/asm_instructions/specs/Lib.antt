@@ -1,7 +1,10 @@
 pub mod Steps
 pub mod Csrs
-pub mod Operands
 pub mod Ranges
+pub mod Pcrel
+pub mod Taken
+pub mod Operands
+pub mod Distances
 pub mod Shapes
 pub mod Compute
 pub mod Memory

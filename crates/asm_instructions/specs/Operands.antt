@@ -1,5 +1,5 @@
 -- Operands of instructions, as their tokens say (RISC-V Assembly Programmer's Manual).
-use Rattle.std.specs.Prelude.{ℕ, suc, ◌+◌, ◌-◌, nat_lt, Bool, if◌then◌else◌, List, [], ◌∷◌, drop, length, take, Option, Some, None, Result, Ok, option_map}
+use Rattle.std.specs.Prelude.{ℕ, suc, ◌+◌, ◌-◌, nat_lt, if◌then◌else◌, List, [], ◌∷◌, drop, length, take, Option, Some, None, Result, Ok, option_map}
 use Rattle.asm_tokens.specs.declared.marks.Mark.TheVariants.{Open, Close}
 use Rattle.asm_tokens.specs.Readings.{TokenSpot}
 use Rattle.asm_tokens.specs.Registers.{register_in}
@@ -8,13 +8,15 @@ use Rattle.asm_tokens.specs.Tokens.{Lexeme}
 use Rattle.asm_tokens.specs.Tokens.Lexeme.{Word, Mark}
 use Rattle.asm_expressions.specs.declared.faults.Fault.{Fault}
 use Rattle.asm_expressions.specs.Symbols.{Context}
-use Rattle.asm_expressions.specs.Values.{value_of}
 use Rattle.asm_instructions.specs.declared.operands.Operand.{Operand}
 use Rattle.asm_instructions.specs.declared.operands.Operand.TheVariants.{Register, Value, Memory, Csr}
 use Rattle.asm_instructions.specs.declared.operands.Operands.{Operands}
 use Rattle.asm_instructions.specs.declared.operands.Operands.TheVariants.{Nothing, One, Two, Three}
+use Rattle.asm_instructions.specs.declared.taken.Takes.{Takes}
+use Rattle.asm_instructions.specs.declared.taken.Takes.TheVariants.{Csrs}
 use Rattle.asm_instructions.specs.Csrs.{csr_named}
 use Rattle.asm_instructions.specs.Steps.{◌>>=◌}
+use Rattle.asm_instructions.specs.Taken.{taken_offset, taken_value}
 
 -- ---- one word: a register, or a CSR where the instruction takes one
 
@@ -26,19 +28,20 @@ abbrev pub only_word : List TokenSpot → Option (List ℕ)
 only_word (only ∷ []) = word_of_token only.lexeme
 only_word tokens = None
 
-abbrev pub csr_operand : (takes_csr : Bool) → (word : List ℕ) → Option Operand
-csr_operand takes_csr word = if takes_csr then option_map Csr (csr_named word) else None
+abbrev pub csr_operand : Takes → (word : List ℕ) → Option Operand
+csr_operand Csrs word = option_map Csr (csr_named word)
+csr_operand takes word = None
 
-abbrev pub named_operand : (takes_csr : Bool) → (word : List ℕ) → Option ℕ → Option Operand
-named_operand takes_csr word None = csr_operand takes_csr word
-named_operand takes_csr word (Some register) = Some (Register register)
+abbrev pub named_operand : Takes → (word : List ℕ) → Option ℕ → Option Operand
+named_operand takes word None = csr_operand takes word
+named_operand takes word (Some register) = Some (Register register)
 
-abbrev pub operand_by_word : (takes_csr : Bool) → Option (List ℕ) → Option Operand
-operand_by_word takes_csr None = None
-operand_by_word takes_csr (Some word) = named_operand takes_csr word (register_in word)
+abbrev pub operand_by_word : Takes → Option (List ℕ) → Option Operand
+operand_by_word takes None = None
+operand_by_word takes (Some word) = named_operand takes word (register_in word)
 
-abbrev pub word_operand : (takes_csr : Bool) → List TokenSpot → Option Operand
-word_operand takes_csr tokens = operand_by_word takes_csr (only_word tokens)
+abbrev pub word_operand : Takes → List TokenSpot → Option Operand
+word_operand takes tokens = operand_by_word takes (only_word tokens)
 
 -- ---- a base: a register in parentheses
 
@@ -62,28 +65,28 @@ base_in tokens =
 
 -- ---- operands
 
-abbrev pub offset_of : Context → List TokenSpot → Result ℕ Fault
-offset_of scope [] = Ok 0
-offset_of scope (placed ∷ tokens) = value_of scope (placed ∷ tokens)
+abbrev pub offset_of : Context → Takes → List TokenSpot → Result ℕ Fault
+offset_of scope takes [] = Ok 0
+offset_of scope takes (placed ∷ tokens) = taken_offset scope takes (placed ∷ tokens)
 
-abbrev pub expression : Context → List TokenSpot → Result Operand Fault
-expression scope tokens = do
-  value ← value_of scope tokens
+abbrev pub expression : Context → Takes → List TokenSpot → Result Operand Fault
+expression scope takes tokens = do
+  value ← taken_value scope takes tokens
   Ok (Value value)
 
-abbrev pub operand_by_base : Context → List TokenSpot → Option (List TokenSpot × ℕ) → Result Operand Fault
-operand_by_base scope tokens None = expression scope tokens
-operand_by_base scope tokens (Some found) = do
-  offset ← offset_of scope found.0
+abbrev pub operand_by_base : Context → Takes → List TokenSpot → Option (List TokenSpot × ℕ) → Result Operand Fault
+operand_by_base scope takes tokens None = expression scope takes tokens
+operand_by_base scope takes tokens (Some found) = do
+  offset ← offset_of scope takes found.0
   Ok (Memory offset found.1)
 
-abbrev pub operand_unless_named : Context → List TokenSpot → Option Operand → Result Operand Fault
-operand_unless_named scope tokens None = operand_by_base scope tokens (base_in tokens)
-operand_unless_named scope tokens (Some named) = Ok named
+abbrev pub operand_unless_named : Context → Takes → List TokenSpot → Option Operand → Result Operand Fault
+operand_unless_named scope takes tokens None = operand_by_base scope takes tokens (base_in tokens)
+operand_unless_named scope takes tokens (Some named) = Ok named
 
 -- An operand: a register or a CSR, an offset with its base, or a value.
-abbrev pub operand_in : Context → (takes_csr : Bool) → List TokenSpot → Result Operand Fault
-operand_in scope takes_csr tokens = operand_unless_named scope tokens (word_operand takes_csr tokens)
+abbrev pub operand_in : Context → Takes → List TokenSpot → Result Operand Fault
+operand_in scope takes tokens = operand_unless_named scope takes tokens (word_operand takes tokens)
 
 -- ---- up to three operands, with commas between them
 
@@ -101,25 +104,25 @@ abbrev pub behind_comma : List TokenSpot → Option (List TokenSpot)
 behind_comma tokens =
     if nat_lt (before_comma tokens) (length tokens) then Some (drop (before_comma tokens + 1) tokens) else None
 
-abbrev pub third_if : Context → (takes_csr : Bool) → (first second : Operand) → Option (List TokenSpot) → Result Operands Fault
-third_if scope takes_csr first second None = Ok (Two first second)
-third_if scope takes_csr first second (Some behind) = do
-  third ← operand_in scope takes_csr behind
+abbrev pub third_if : Context → Takes → (first second : Operand) → Option (List TokenSpot) → Result Operands Fault
+third_if scope takes first second None = Ok (Two first second)
+third_if scope takes first second (Some behind) = do
+  third ← operand_in scope takes behind
   Ok (Three first second third)
 
 -- the first operand, and those behind its comma
-abbrev pub more_operands : Context → (takes_csr : Bool) → Operand → List TokenSpot → Result Operands Fault
-more_operands scope takes_csr first tokens = do
-  second ← operand_in scope takes_csr (operand_front tokens)
-  third_if scope takes_csr first second (behind_comma tokens)
+abbrev pub more_operands : Context → Takes → Operand → List TokenSpot → Result Operands Fault
+more_operands scope takes first tokens = do
+  second ← operand_in scope takes (operand_front tokens)
+  third_if scope takes first second (behind_comma tokens)
 
-abbrev pub more_operands_if : Context → (takes_csr : Bool) → Operand → Option (List TokenSpot) → Result Operands Fault
-more_operands_if scope takes_csr first None = Ok (One first)
-more_operands_if scope takes_csr first (Some behind) = more_operands scope takes_csr first behind
+abbrev pub more_operands_if : Context → Takes → Operand → Option (List TokenSpot) → Result Operands Fault
+more_operands_if scope takes first None = Ok (One first)
+more_operands_if scope takes first (Some behind) = more_operands scope takes first behind
 
 -- The operands that tokens behind a mnemonic are.
-abbrev pub operands_in : Context → (takes_csr : Bool) → List TokenSpot → Result Operands Fault
-operands_in scope takes_csr [] = Ok Nothing
-operands_in scope takes_csr (placed ∷ tokens) = do
-  first ← operand_in scope takes_csr (operand_front (placed ∷ tokens))
-  more_operands_if scope takes_csr first (behind_comma (placed ∷ tokens))
+abbrev pub operands_in : Context → Takes → List TokenSpot → Result Operands Fault
+operands_in scope takes [] = Ok Nothing
+operands_in scope takes (placed ∷ tokens) = do
+  first ← operand_in scope takes (operand_front (placed ∷ tokens))
+  more_operands_if scope takes first (behind_comma (placed ∷ tokens))

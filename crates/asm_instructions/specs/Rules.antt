@@ -17,6 +17,7 @@ use Rattle.asm_instructions.specs.Memory.{amo_rule, fetch_rule, load_rule, store
 use Rattle.asm_instructions.specs.Operands.{operands_in}
 use Rattle.asm_instructions.specs.Steps.{◌>>=◌}
 use Rattle.asm_instructions.specs.Supervisor.{alone_rule, csr_rule, fence_rule, read_csr_rule, sfence_rule, write_csr_rule}
+use Rattle.asm_instructions.specs.Taken.{takes_of}
 
 -- what a form makes of its operands, at an address
 unfoldable pub rule_by : OperandForm → (here : ℕ) → Operands → Result Made Wrong
@@ -64,15 +65,6 @@ rule_by Ebreak here operands = alone_rule does.Ebreak operands
 rule_by Sret here operands = alone_rule does.Sret operands
 rule_by (Refused refusal) here operands = Err wrongs.Refused
 
--- whether an operand of this form can be a CSR
-abbrev pub takes_csr : OperandForm → Bool
-takes_csr (Csr how) = true
-takes_csr (CsrImmediate how) = true
-takes_csr ReadCsr = true
-takes_csr (WriteCsr how) = true
-takes_csr (WriteCsrImmediate how) = true
-takes_csr form = false
-
 -- what is wrong, at its place
 abbrev pub at_mnemonic : (left : ℕ) → Result Made Wrong → Result Made Fault
 at_mnemonic left (Ok made) = Ok made
@@ -85,7 +77,7 @@ takes_sets form = false
 
 abbrev pub made_from_operands : Context → OperandForm → (left : ℕ) → List TokenSpot → Result Made Fault
 made_from_operands scope form left tokens = do
-  operands ← operands_in scope (takes_csr form) tokens
+  operands ← operands_in scope (takes_of form) tokens
   at_mnemonic left (rule_by form scope.here operands)
 
 -- What a form and its operands make; `left` is the place of the mnemonic.

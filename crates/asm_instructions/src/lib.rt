@@ -8,13 +8,16 @@ mod jumps;
 mod made;
 mod memory;
 mod operands;
+mod pcrel;
 mod ranges;
 mod rules;
 mod shapes;
 mod sizes;
 mod supervisor;
+mod taken;
 
 pub use made::Made;
 pub use operands::{CsrName, Operand, Operands, first_operand};
+pub use pcrel::high_distance;
 pub use rules::instructions_of;
 pub use sizes::count_of;

@@ -5,7 +5,8 @@ ghost use Rattle.asm_expressions.specs.Symbols.{context_of};
 ghost use Rattle.asm_instructions.specs.Operands.{base_behind, base_in, before_comma, behind_comma, expression, operand_front, more_operands, offset_of, operand_in, operands_in, word_operand, only_word};
 
 use crate::csrs::csr_named;
-use asm_expressions::{Fault, Scope, value_of};
+use crate::taken::{Takes, taken_offset, taken_value};
+use asm_expressions::{Fault, Scope};
 use asm_tokens::{Mark, Placed, Token, register_number};
 use rv64_instructions::Csr;
 
@@ -47,18 +48,18 @@ pub enum Operands {
 /// The operands that a statement's tokens behind the mnemonic are; there are commas between them.
 pub(crate) fn read_operands(
     scope: &Scope<'_, '_>,
-    takes_csr: bool,
+    takes: Takes,
     tokens: &[Placed<'_>],
 ) -> Result<Operands, Fault>
-    ensures { result ≡ operands_in (context_of scope.now) takes_csr (spots_of tokens.now) }
+    ensures { result ≡ operands_in (context_of scope.now) takes (spots_of tokens.now) }
 {
     if tokens.is_empty() {
         return Ok(Operands::Nothing);
     }
     let (front, behind) = first_operand(tokens);
-    let first = read_operand(scope, takes_csr, front)?;
+    let first = read_operand(scope, takes, front)?;
     match behind {
-        Some(rest) => more_operands(scope, takes_csr, first, rest),
+        Some(rest) => more_operands(scope, takes, first, rest),
         None => Ok(Operands::One(first)),
     }
 }
@@ -66,49 +67,49 @@ pub(crate) fn read_operands(
 /// The first operand, and those behind its comma.
 fn more_operands(
     scope: &Scope<'_, '_>,
-    takes_csr: bool,
+    takes: Takes,
     first: Operand,
     tokens: &[Placed<'_>],
 ) -> Result<Operands, Fault>
-    ensures { result ≡ more_operands (context_of scope.now) takes_csr first (spots_of tokens.now) }
+    ensures { result ≡ more_operands (context_of scope.now) takes first (spots_of tokens.now) }
 {
     let (front, behind) = first_operand(tokens);
-    let second = read_operand(scope, takes_csr, front)?;
+    let second = read_operand(scope, takes, front)?;
     let Some(rest) = behind else {
         return Ok(Operands::Two(first, second));
     };
-    let third = read_operand(scope, takes_csr, rest)?;
+    let third = read_operand(scope, takes, rest)?;
     Ok(Operands::Three(first, second, third))
 }
 
 /// The operand that tokens are.
 fn read_operand(
     scope: &Scope<'_, '_>,
-    takes_csr: bool,
+    takes: Takes,
     tokens: &[Placed<'_>],
 ) -> Result<Operand, Fault>
-    ensures { result ≡ operand_in (context_of scope.now) takes_csr (spots_of tokens.now) }
+    ensures { result ≡ operand_in (context_of scope.now) takes (spots_of tokens.now) }
 {
-    if let Some(named) = word_operand(takes_csr, tokens) {
+    if let Some(named) = word_operand(takes, tokens) {
         return Ok(named);
     }
     match base(tokens) {
         Some((front, register)) => {
-            let offset = offset_of(scope, front)?;
+            let offset = offset_of(scope, takes, front)?;
             Ok(Operand::Memory(offset, register))
         }
-        None => expression(scope, tokens),
+        None => expression(scope, takes, tokens),
     }
 }
 
 /// The operand that one word is: a register, or a CSR where the instruction takes one.
-fn word_operand(takes_csr: bool, tokens: &[Placed<'_>]) -> Option<Operand>
-    ensures { result ≡ word_operand takes_csr (spots_of tokens.now) }
+fn word_operand(takes: Takes, tokens: &[Placed<'_>]) -> Option<Operand>
+    ensures { result ≡ word_operand takes (spots_of tokens.now) }
 {
     let word = only_word(tokens)?;
     match register_number(word) {
         Some(register) => Some(Operand::Register(register)),
-        None if takes_csr => Some(Operand::Csr(csr_named(word)?)),
+        None if matches!(takes, Takes::Csrs) => Some(Operand::Csr(csr_named(word)?)),
         None => None,
     }
 }
@@ -127,21 +128,21 @@ fn only_word<'a>(tokens: &[Placed<'a>]) -> Option<&'a [u8]>
 }
 
 /// The value of an expression, as an operand.
-fn expression(scope: &Scope<'_, '_>, tokens: &[Placed<'_>]) -> Result<Operand, Fault>
-    ensures { result ≡ expression (context_of scope.now) (spots_of tokens.now) }
+fn expression(scope: &Scope<'_, '_>, takes: Takes, tokens: &[Placed<'_>]) -> Result<Operand, Fault>
+    ensures { result ≡ expression (context_of scope.now) takes (spots_of tokens.now) }
 {
-    let value = value_of(scope, tokens)?;
+    let value = taken_value(scope, takes, tokens)?;
     Ok(Operand::Value(value))
 }
 
 /// The offset before a base: no tokens are 0.
-fn offset_of(scope: &Scope<'_, '_>, tokens: &[Placed<'_>]) -> Result<u64, Fault>
-    ensures { result ≡ offset_of (context_of scope.now) (spots_of tokens.now) }
+fn offset_of(scope: &Scope<'_, '_>, takes: Takes, tokens: &[Placed<'_>]) -> Result<u64, Fault>
+    ensures { result ≡ offset_of (context_of scope.now) takes (spots_of tokens.now) }
 {
     if tokens.is_empty() {
         return Ok(0);
     }
-    value_of(scope, tokens)
+    taken_offset(scope, takes, tokens)
 }
 
 /// The base that tokens end with, a register in parentheses, and the tokens before it.

@@ -2,7 +2,7 @@
 ghost use Rattle.asm_tokens.specs.Readings.{spots_of};
 ghost use Rattle.std.specs.Prelude.{◌≡◌};
 ghost use Rattle.asm_expressions.specs.Symbols.{context_of};
-ghost use Rattle.asm_instructions.specs.Rules.{instructions_of, at_mnemonic, rule_by, takes_csr, takes_sets};
+ghost use Rattle.asm_instructions.specs.Rules.{instructions_of, at_mnemonic, rule_by, takes_sets};
 
 use crate::compute::{
     extended, fixed_immediate, from_zero, immediate, load_address, load_immediate, nop, registers,
@@ -16,6 +16,7 @@ use crate::made::Made;
 use crate::memory::{StoreSize, atomic, fetch, load, store};
 use crate::operands::{Operands, read_operands};
 use crate::supervisor::{alone, fence, on_csr, read_csr, sfence, write_csr};
+use crate::taken::takes_of;
 use asm_expressions::{Fault, Scope, Wrong};
 use asm_mnemonics::OperandForm;
 use asm_tokens::Placed;
@@ -37,7 +38,7 @@ pub fn instructions_of(
     if takes_sets(form) {
         return at_mnemonic(left, fence(tokens));
     }
-    let operands = read_operands(scope, takes_csr(form), tokens)?;
+    let operands = read_operands(scope, takes_of(form), tokens)?;
     at_mnemonic(left, rule(form, scope.here, &operands))
 }
 
@@ -56,20 +57,6 @@ fn at_mnemonic(left: usize, made: Result<Made, Wrong>) -> Result<Made, Fault>
         Ok(made) => Ok(made),
         Err(wrong) => Err(Fault { wrong, left }),
     }
-}
-
-/// Whether an operand of this form can be a CSR.
-fn takes_csr(form: OperandForm) -> bool
-    ensures { result ≡ takes_csr form }
-{
-    matches!(
-        form,
-        OperandForm::Csr(_)
-            | OperandForm::CsrImmediate(_)
-            | OperandForm::ReadCsr
-            | OperandForm::WriteCsr(_)
-            | OperandForm::WriteCsrImmediate(_)
-    )
 }
 
 /// The rule of a form.

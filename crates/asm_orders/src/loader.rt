@@ -1,5 +1,5 @@
 //! The loader: instructions by which the boot hart stores a program's data before it begins (profile).
-use crate::loading::{Unloaded, unread};
+use crate::reading::{Unloaded, unread};
 use amo::AmoName;
 use asm_program::{Assembly, CodeLine, Datum};
 use board_core::Config;
@@ -10,7 +10,7 @@ use sv39::{PAGE_BYTES, RAM_START};
 /// What an instruction of the loader has for its place in the text.
 pub(crate) const IN_LOADER: usize = usize::MAX;
 
-/// The board of a program: if it has data other than 0, the boot hart begins with a loader, which is added to the instructions.
+/// The board of the program of this name: if it has data other than 0, the boot hart begins with a loader, which is added to the instructions.
 /// That begins at the last even address of the RAM, and goes on at the boot address.
 ///
 /// # Errors
@@ -18,6 +18,7 @@ pub(crate) const IN_LOADER: usize = usize::MAX;
 /// Data lie outside the RAM, an instruction stands where the loader's may, or memory was refused.
 pub(crate) fn with_loader(
     alloc: Global,
+    name: &str,
     program: &mut Assembly<'_>,
     config: Config,
 ) -> Result<Config, Unloaded> {
@@ -27,12 +28,13 @@ pub(crate) fn with_loader(
     if program.code.iter().any(|line| line.at % 4 == 2) {
         return Err(unread(
             alloc,
+            name,
             "data need instructions at multiples of 4, between which their loader stands",
         )?);
     }
     let end = RAM_START.wrapping_add(PAGE_BYTES.wrapping_mul(config.pages));
     let first = end.wrapping_sub(2);
-    let loader = loader_of(alloc, &program.data, first, config.boot_addr)?;
+    let loader = loader_of(alloc, name, &program.data, first, config.boot_addr)?;
     program.code.extend_from_slice(&loader)?;
     Ok(Config {
         boot_addr: first,
@@ -43,6 +45,7 @@ pub(crate) fn with_loader(
 /// The loader of these data, which begins two bytes before the end of the RAM.
 fn loader_of(
     alloc: Global,
+    name: &str,
     data: &[Datum],
     first: u64,
     boot_addr: u64,
@@ -55,7 +58,9 @@ fn loader_of(
         }
         if !is_in_ram(datum, first.wrapping_add(2)) {
             let at = datum.at;
-            return Err(Unloaded::File(format!(in alloc; ": data at {at:#x} lie outside the RAM")?));
+            return Err(Unloaded::File(format!(in alloc;
+                "{name}: data at {at:#x} lie outside the RAM"
+            )?));
         }
         next = put_datum(&mut code, next, datum)?;
     }

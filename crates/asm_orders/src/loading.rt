@@ -1,17 +1,18 @@
 //! Reads a program in assembly, its board and its conditions.
 use crate::loader::with_loader;
-use crate::naming::{bad_numbered, with_numbers};
-use asm_program::{Assembly, AssemblyError, Datum, ProgramFault, ProgramWrong, assemble_text};
+use crate::naming::{bad_numbered, lets_wfi_return, with_numbers};
+use crate::reading::{Unloaded, unread};
+use crate::sources::Sources;
+use asm_program::{
+    Assembly, AssemblyError, CodeLine, Datum, ProgramFault, ProgramWrong, assemble_text,
+};
+use asm_tokens::TextPlace;
 use board_core::{Config, USUAL_ASID_LEN, USUAL_WIDTH};
 use conditions::{Condition, Wrong, conditions};
 use diagnostics::said;
+use rv64_instructions::{Instruction, Register};
 use std::alloc::{AllocError, Global};
-use std::io::{self, ErrorKind, Read};
-use std::rt::Files;
-use std::{fs, str};
-
-/// One byte more than a file may have.
-const READ_LIMIT: usize = 16_777_217;
+use std::str;
 
 /// A program that can be explored.
 #[derive(Drop)]
@@ -24,107 +25,82 @@ pub(crate) struct Loaded<'a> {
     pub(crate) conditions: Vec<Condition>,
 }
 
-/// Why nothing was loaded.
-#[derive(Drop)]
-pub(crate) enum Unloaded {
-    /// The file can't be explored: the text behind its name, with the place if there is one, and the fault.
-    File(String),
-    /// Memory was refused.
-    NoMemory,
-}
-
-impl From<AllocError> for Unloaded {
-    fn from(_: AllocError) -> Unloaded {
-        Unloaded::NoMemory
-    }
-}
-
-/// The bytes of a file.
-pub(crate) fn read<R: AllocGlobal + Files>(rt: &R, file: &str) -> Result<Vec<u8>, Unloaded> {
-    let alloc = rt.alloc();
-    match bytes_of(rt, file) {
-        Ok(text) => {
-            if text.len() < READ_LIMIT {
-                Ok(text)
-            } else {
-                Err(unread(alloc, "more than 16,777,216 bytes")?)
-            }
-        }
-        Err(error) => Err(unreadable(alloc, error.kind())?),
-    }
-}
-
-/// A file that can't be read, by the kind of the error.
-fn unreadable(alloc: Global, kind: ErrorKind) -> Result<Unloaded, AllocError> {
-    if kind == ErrorKind::OutOfMemory {
-        return Ok(Unloaded::NoMemory);
-    }
-    unread(alloc, why_unread(kind))
-}
-
-fn bytes_of<R: AllocGlobal + Files>(rt: &R, file: &str) -> io::Result<Vec<u8>> {
-    let mut text = Vec::new(rt.alloc());
-    fs::open(rt, file)?
-        .take(READ_LIMIT as u64)
-        .read_to_end(&mut text)?;
-    Ok(text)
-}
-
-fn why_unread(kind: ErrorKind) -> &'static str {
-    match kind {
-        ErrorKind::NotFound => "no such file",
-        ErrorKind::IsADirectory => "is a directory",
-        ErrorKind::PermissionDenied => "permission denied",
-        _ => "can't be read",
-    }
-}
-
-/// A file that can't be explored, and why.
-pub(crate) fn unread(alloc: Global, why: &str) -> Result<Unloaded, AllocError> {
-    Ok(Unloaded::File(format!(in alloc; ": {why}")?))
-}
-
-/// The program that a text says, with its board and its conditions.
-pub(crate) fn load<'a>(alloc: Global, text: &'a [u8]) -> Result<Loaded<'a>, Unloaded> {
-    let mut program = match assemble_text(alloc, text) {
+/// The program that files say, with its board, and the conditions of its own file.
+pub(crate) fn load<'a>(alloc: Global, sources: &'a Sources) -> Result<Loaded<'a>, Unloaded> {
+    let mut program = match assemble_text(alloc, &sources.text) {
         Ok(program) => program,
-        Err(AssemblyError::Faulty(fault)) => return Err(faulty(alloc, text, fault)?),
+        Err(AssemblyError::Faulty(fault)) => return Err(faulty(alloc, sources, fault)?),
         Err(AssemblyError::NoMemory) => return Err(Unloaded::NoMemory),
     };
+    let name = sources.name();
     let Some(board) = board_of(program.data.as_slice()) else {
         return Err(unread(
             alloc,
+            name,
             "it needs one board: .board HARTS, PAGES, LIMIT, BOOTHART, BOOTADDR, BOOTOPAQUE",
         )?);
     };
     let has_begin = program.code.iter().any(|line| line.at == board.boot_addr);
-    let config = with_loader(alloc, &mut program, board)?;
+    if lets_wfi_return(sources.own()) {
+        return_from_wfi(&mut program.code);
+    }
+    let config = with_loader(alloc, name, &mut program, board)?;
+    let conditions = asked(alloc, sources, &program)?;
+    if board.is_good() && !has_begin {
+        return Err(without_begin(alloc, name, board.boot_addr)?);
+    }
+    Ok(Loaded {
+        program,
+        config,
+        conditions,
+    })
+}
+
+/// The conditions of a program's own file.
+fn asked(
+    alloc: Global,
+    sources: &Sources,
+    program: &Assembly<'_>,
+) -> Result<Vec<Condition>, Unloaded> {
+    let text = sources.own();
     let numbered = with_numbers(alloc, text, &program.symbols)?;
     match conditions(alloc, &numbered) {
-        Ok(_) if board.is_good() && !has_begin => Err(without_begin(alloc, board.boot_addr)?),
-        Ok(conditions) => Ok(Loaded {
-            program,
-            config,
-            conditions,
-        }),
+        Ok(conditions) => Ok(conditions),
         Err(found) if found.wrong == Wrong::NoMemory => Err(Unloaded::NoMemory),
-        Err(found) => Err(Unloaded::File(bad_numbered(alloc, text, &numbered, found)?)),
+        Err(found) => {
+            let name = sources.name();
+            let why = bad_numbered(alloc, text, &numbered, found)?;
+            Err(Unloaded::File(format!(in alloc; "{name}{why}")?))
+        }
+    }
+}
+
+/// Makes each WFI an instruction that reads sip, and does nothing with it: a step that needs no wake (Privileged 3.3.3).
+fn return_from_wfi(code: &mut [CodeLine]) {
+    for line in code {
+        if line.instruction == Instruction::Wfi {
+            line.instruction = Instruction::ReadSip {
+                rd: Register::zero(),
+            };
+        }
     }
 }
 
 /// A program without an instruction where its boot hart begins.
-fn without_begin(alloc: Global, boot_addr: u64) -> Result<Unloaded, AllocError> {
-    Ok(Unloaded::File(format!(in alloc; ": no instruction stands at BOOTADDR, {boot_addr:#x}")?))
+fn without_begin(alloc: Global, name: &str, boot_addr: u64) -> Result<Unloaded, AllocError> {
+    Ok(Unloaded::File(format!(in alloc;
+        "{name}: no instruction stands at BOOTADDR, {boot_addr:#x}"
+    )?))
 }
 
-/// A program with a fault: its line and column, what is wrong, and the rest of the line.
-fn faulty(alloc: Global, text: &[u8], fault: ProgramFault) -> Result<Unloaded, AllocError> {
-    let line = fault.place.line;
-    let column = fault.place.column;
+/// A program with a fault: its file, line and column, what is wrong, and the rest of the line.
+fn faulty(alloc: Global, sources: &Sources, fault: ProgramFault) -> Result<Unloaded, AllocError> {
+    let (file, TextPlace { line, column }) = sources.place(sources.byte_at(fault.place));
+    let name = &file.name;
     let what = what_is(fault.wrong);
-    let rest = said(str::from_utf8(rest_of(text, line, column)).unwrap_or(""));
+    let rest = said(str::from_utf8(rest_of(&file.text, line, column)).unwrap_or(""));
     let rest = with_blanks(alloc, rest)?;
-    Ok(Unloaded::File(format!(in alloc; ":{line}:{column}: {what}: '{rest}'")?))
+    Ok(Unloaded::File(format!(in alloc; "{name}:{line}:{column}: {what}: '{rest}'")?))
 }
 
 /// A text with blanks in place of its tabs.
@@ -171,6 +147,7 @@ fn statement_wrong(wrong: asm_expressions::Wrong) -> &'static str {
         Bad::BadNumber => "this is no number below 2^64",
         Bad::UnknownSymbol => "nothing defines this symbol",
         Bad::UnknownFunction => "%hi and %lo are the functions of values",
+        Bad::NoHighPart => "no auipc with %pcrel_hi stands at this label",
         Bad::OpenParenthesis => "a parenthesis isn't closed",
         Bad::TooDeep => "too many parentheses and signs stand within one another",
         Bad::ByZero => "a division by 0",

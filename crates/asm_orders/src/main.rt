@@ -1,5 +1,5 @@
-//! The program behind `sbiboard explore FILE.s`. It explores all orders of programs in assembly, judges their conditions, and prints
-//! points of the Test Anything Protocol.
+//! The program behind `sbiboard explore FILE.s` and `sbiboard test FILE.s`. It looks at orders of programs in assembly, judges their
+//! conditions, and prints points of the Test Anything Protocol.
 #![tactic(auto)]
 
 mod answers;
@@ -11,10 +11,13 @@ mod loader;
 mod loading;
 mod marked;
 mod naming;
+mod reading;
 mod records;
 mod source;
+mod sources;
 mod standing;
 mod telling;
+mod trying;
 mod words;
 
 use early::{Early, told};

@@ -30,7 +30,26 @@ const WORDS: [&[u8]; 21] = [
     b"unsteady",
 ];
 
-/// A program's text in which the symbols of conditions are numbers.
+/// The words of a line that says, behind its `#!`, that WFI may return without a wake.
+const WFI_RETURNS: [&[u8]; 3] = [b"wfi", b"may", b"return"];
+
+/// Whether a line of a program says so.
+pub(crate) fn lets_wfi_return(text: &[u8]) -> bool {
+    text.split(|b| *b == b'\n').any(is_of_wfi)
+}
+
+/// Whether a line says so.
+fn is_of_wfi(line: &[u8]) -> bool {
+    let Some(asked) = line.trim_ascii_start().strip_prefix(b"#!") else {
+        return false;
+    };
+    let said = asked.split(|b| *b == b'#').next().unwrap_or(b"");
+    said.split(|b| is_between(*b))
+        .filter(|word| !word.is_empty())
+        .eq(WFI_RETURNS.iter().copied())
+}
+
+/// A program's text in which the symbols of conditions are numbers. The line about WFI is a plain comment there.
 ///
 /// # Errors
 ///
@@ -58,6 +77,7 @@ fn put_line(
     out: &mut Vec<u8>,
 ) -> Result<(), AllocError> {
     match line.trim_ascii_start().strip_prefix(b"#!") {
+        Some(_) if is_of_wfi(line) => Ok(()),
         Some(asked) => {
             let front = line.len().saturating_sub(asked.len());
             out.extend_from_slice(line.get(..front).unwrap_or(b""))?;

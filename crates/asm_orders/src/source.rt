@@ -2,7 +2,8 @@
 use crate::answers::Search;
 use crate::loader::IN_LOADER;
 use asm_guests::Code;
-use asm_tokens::place_at;
+use asm_tokens::TextPlace;
+use diagnostics::Case;
 use std::alloc::AllocError;
 use std::fmt::Write;
 use std::path::Path;
@@ -18,37 +19,53 @@ pub(crate) fn put_source<C: Code>(
     pc: u64,
     out: &mut String,
 ) -> Result<(), AllocError> {
-    let line = match line_of(search, pc) {
-        Some(Place::Line(line)) => line,
+    let at = match byte_of(search, pc) {
+        Some(Place::Byte(at)) => at,
         Some(Place::Loader) => return out.push_str("the loader"),
         None => return write!(out, "{pc:#x}"),
     };
-    put_word(Path::new(search.case.file).file_name().unwrap_or(""), out)?;
+    let (file, TextPlace { line, .. }) = search.sources.place(at);
+    let name = file.name.as_str();
+    put_word(Path::new(name).file_name().unwrap_or(""), out)?;
     write!(out, ":{line}:")?;
-    for word in search.case.said_at(line as u64).split_whitespace() {
+    let case = Case {
+        file: name,
+        text: &file.text,
+        conditions: &[],
+    };
+    for word in case.said_at(line as u64).split_whitespace() {
         out.push(' ')?;
         put_word(word, out)?;
     }
     Ok(())
 }
 
+/// The line of the instruction at an address in the program's own file; 0 if it stands elsewhere, or none is there.
+pub(crate) fn number_of<C: Code>(search: &Search<'_, C>, pc: u64) -> u64 {
+    match byte_of(search, pc) {
+        Some(Place::Byte(at)) if search.sources.is_own(at) => {
+            search.sources.place(at).1.line as u64
+        }
+        _ => 0,
+    }
+}
+
 /// Where an instruction stands.
 #[derive(Clone, Copy)]
 enum Place {
-    /// In this line of the text.
-    Line(usize),
+    /// At this byte of the whole text.
+    Byte(usize),
     /// In the loader.
     Loader,
 }
 
 /// Where the instruction at an address stands, if there is one. Of two at one address the first counts.
-fn line_of<C: Code>(search: &Search<'_, C>, pc: u64) -> Option<Place> {
-    let text = search.case.text;
+fn byte_of<C: Code>(search: &Search<'_, C>, pc: u64) -> Option<Place> {
     let line = search.lines.iter().find(|line| line.at == pc)?;
     if line.left == IN_LOADER {
         return Some(Place::Loader);
     }
-    Some(Place::Line(place_at(text, line.left.min(text.len())).line))
+    Some(Place::Byte(search.sources.text.len().saturating_sub(line.left)))
 }
 
 /// Adds a word as a trace may have it: printable, of ASCII.

@@ -4,21 +4,23 @@ use Rattle.std.proofs.lemmas.List.{drop-map, length-map, map-append, take-map}
 use Rattle.asm_tokens.specs.declared.reader.Placed.{Placed}
 use Rattle.asm_tokens.specs.Readings.{TokenSpot, spots_of, token_spot}
 use Rattle.asm_expressions.specs.declared.faults.Fault.{Fault}
+use Rattle.asm_expressions.specs.declared.symbols.PcrelHigh.{PcrelHigh}
 use Rattle.asm_expressions.specs.declared.symbols.Symbol.{Symbol}
 use Rattle.asm_expressions.specs.Symbols.{Context, named_of}
+use Rattle.asm_expressions.specs.Values.{value_of}
 use Rattle.asm_instructions.specs.Operands.{operand_front}
 use Rattle.rv64_instructions.specs.declared.instruction.Instruction.{Instruction}
 use Rattle.asm_program.specs.declared.code.CodeLine.{CodeLine}
 use Rattle.asm_program.specs.declared.data.Datum.{Datum}
 use Rattle.asm_program.specs.Code.{copies}
-use Rattle.asm_program.specs.Data.{before_more, number_of, numbers_by, numbers_in}
+use Rattle.asm_program.specs.Data.{before_more, number_of, numbers_by, numbers_in, tick_list_by, tick_list}
 use Rattle.asm_program.specs.declared.changes.Change.{Change}
 use Rattle.asm_program.specs.declared.layout.Statement.{Statement}
 use Rattle.asm_program.specs.Inside.Passes.{Laid, Sum, added_if, changing_of, laid_more, standing_of, with_before, with_one}
 use Rattle.asm_program.specs.Layout.{PartsReach, reached_by, reached_with, standing, reach_more}
 use Rattle.asm_program.specs.declared.parts.Part.{Part}
 use Rattle.asm_program.specs.Parts.{Piece, behind_part, first_part, parts_in, piece_of}
-use Rattle.asm_program.specs.Written.{as_numbers}
+use Rattle.asm_program.specs.Written.{as_numbers, as_ticks}
 
 -- ---- tokens without where they lie in memory
 
@@ -81,12 +83,12 @@ numbers_more scope size left (suc n) at tokens some =
     let less : n ≡ suc n - 1 = omega arith in
     ap (λ k. numbers_by size at tokens (numbers_in scope size left k) (number_of scope size left (operand_front tokens))) less
 
-pub before_one : (before : List Datum) (datum : Datum) (more : Result (List Datum) Fault)
-    → with_before before (before_more datum more) ≡ with_before (before ++ datum ∷ []) more
-before_one before datum (Err fault) = refl
-before_one before datum (Ok more) = ap Ok (sym (append_assoc before (datum ∷ []) more))
+pub before_one : {A : Type 0} (before : List A) (first : A) (more : Result (List A) Fault)
+    → with_before before (before_more first more) ≡ with_before (before ++ first ∷ []) more
+before_one before first (Err fault) = refl
+before_one before first (Ok more) = ap Ok (sym (append_assoc before (first ∷ []) more))
 
-pub before_none : (before : List Datum) → with_before before (Ok []) ≡ Ok before
+pub before_none : {A : Type 0} (before : List A) → with_before before (Ok []) ≡ Ok before
 before_none before = ap Ok (append-nil before)
 
 pub numbers_added : (before : Sum) (numbers : Result (List Datum) Fault) (all : List Datum)
@@ -100,6 +102,34 @@ pub numbers_fail : (before : Sum) (numbers : Result (List Datum) Fault) (fault :
     → with_before before.numbers numbers ≡ Err fault → added_if before (as_numbers numbers) ≡ Err fault
 numbers_fail before (Err other) fault same = let e : other ≡ fault = cc in ap Err e
 numbers_fail before (Ok more) fault same = absurd cc
+
+-- ---- ticks
+
+pub ticks_more : (scope : Context) (n : ℕ) (tokens : List TokenSpot) → 0 < n
+    → tick_list scope n tokens ≡ tick_list_by tokens (tick_list scope (n - 1)) (value_of scope (operand_front tokens))
+ticks_more scope zero tokens some = absurd (omega arith)
+ticks_more scope (suc n) tokens some =
+    let less : n ≡ suc n - 1 = omega arith in
+    ap (λ k. tick_list_by tokens (tick_list scope k) (value_of scope (operand_front tokens))) less
+
+pub ticks_added : (before : Sum) (ticks : Result (List ℕ) Fault) (all : List ℕ)
+    → with_before before.ticks ticks ≡ Ok all → added_if before (as_ticks ticks) ≡ Ok (record before { ticks = all })
+ticks_added before (Err fault) all same = absurd cc
+ticks_added before (Ok more) all same =
+    let e : before.ticks ++ more ≡ all = cc in
+    λ i. Ok (record before { ticks = e i })
+
+pub ticks_fail : (before : Sum) (ticks : Result (List ℕ) Fault) (fault : Fault)
+    → with_before before.ticks ticks ≡ Err fault → added_if before (as_ticks ticks) ≡ Err fault
+ticks_fail before (Err other) fault same = let e : other ≡ fault = cc in ap Err e
+ticks_fail before (Ok more) fault same = absurd cc
+
+-- ---- each `auipc` with `%pcrel_hi(..)`
+
+pub high_pushed : (before now more whole : List PcrelHigh) (high : PcrelHigh) → now ≡ before ++ high ∷ [] → before ++ high ∷ more ≡ whole
+    → now ++ more ≡ whole
+high_pushed before now more whole high pushed so =
+    ap (λ (highs : List PcrelHigh). highs ++ more) pushed ∙ append_assoc before (high ∷ []) more ∙ so
 
 -- ---- instructions
 

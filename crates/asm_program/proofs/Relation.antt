@@ -19,8 +19,8 @@ use Rattle.asm_program.specs.Layout.{PartsReach, Standing, before_parts, ends_of
 use Rattle.asm_program.specs.Parts.{Piece, parts_of}
 use Rattle.asm_program.specs.declared.sections.Counters.{Counters}
 use Rattle.asm_program.specs.Sections.{are_settled, bases_of, zeros}
-use Rattle.asm_program.specs.Written.{PartWriting, data_in, lines_in, part_written}
-use Rattle.asm_program.specs.Written.PartWriting.{Blank, Lines, Numbers}
+use Rattle.asm_program.specs.Written.{AllKnown, PartWriting, written_ticks, data_in, known_of, lines_in, part_written}
+use Rattle.asm_program.specs.Written.PartWriting.{Blank, Lines, Numbers, Ticks}
 
 abbrev parts_at : List Standing → List Piece
 parts_at standings = map (λ (one : Standing). one.part) standings
@@ -28,11 +28,12 @@ parts_at standings = map (λ (one : Standing). one.part) standings
 abbrev laid_ok : PartsReach → List Standing → Result Laid Fault
 laid_ok reached standings = Ok (record { reached = reached; standings = standings })
 
-abbrev sum_ok : List CodeLine → List Datum → Result Sum Fault
-sum_ok code numbers = Ok (record { code = code; numbers = numbers })
+abbrev sum_ok : List CodeLine → List Datum → List ℕ → Result Sum Fault
+sum_ok code numbers ticks = Ok (record { code = code; numbers = numbers; ticks = ticks })
 
-abbrev image_ok : List CodeLine → List Datum → List Named → List ℕ → Result Image Fault
-image_ok code numbers symbols ends = Ok (record { code = code; numbers = numbers; symbols = symbols; ends = ends })
+abbrev image_ok : List CodeLine → List Datum → List ℕ → List Named → List ℕ → Result Image Fault
+image_ok code numbers ticks symbols ends =
+    Ok (record { code = code; numbers = numbers; ticks = ticks; symbols = symbols; ends = ends })
 
 -- one part more of the first pass
 abbrev goes_on : (number : ℕ) → List Standing → PartsReach → Piece → List Piece → Result PartsReach Fault → Result Laid Fault
@@ -40,8 +41,8 @@ goes_on number before from part parts stepped =
     laid_on (λ next. laid_in (suc number) next parts) (with_one before (standing number from part) stepped)
 
 -- one part more of the second
-abbrev adds_on : List Named → Sum → List Standing → Result PartWriting Fault → Result Sum Fault
-adds_on symbols before more writing = sum_on (λ next. sum_in symbols next more) (added_if before writing)
+abbrev adds_on : AllKnown → Sum → List Standing → Result PartWriting Fault → Result Sum Fault
+adds_on known before more writing = sum_on (λ next. sum_in known next more) (added_if before writing)
 
 -- ---- the first pass
 
@@ -131,11 +132,19 @@ added-code : (before : Sum) (writing : PartWriting) → (added before writing).c
 added-code before Blank = sym (append-nil before.code)
 added-code before (Lines lines) = refl
 added-code before (Numbers numbers) = sym (append-nil before.code)
+added-code before (Ticks ticks) = sym (append-nil before.code)
 
 added-numbers : (before : Sum) (writing : PartWriting) → (added before writing).numbers ≡ before.numbers ++ data_in writing
 added-numbers before Blank = sym (append-nil before.numbers)
 added-numbers before (Lines lines) = sym (append-nil before.numbers)
 added-numbers before (Numbers numbers) = refl
+added-numbers before (Ticks ticks) = sym (append-nil before.numbers)
+
+added-ticks : (before : Sum) (writing : PartWriting) → (added before writing).ticks ≡ before.ticks ++ written_ticks writing
+added-ticks before Blank = sym (append-nil before.ticks)
+added-ticks before (Lines lines) = sym (append-nil before.ticks)
+added-ticks before (Numbers numbers) = sym (append-nil before.ticks)
+added-ticks before (Ticks ticks) = refl
 
 code_more : (before : Sum) (writing : PartWriting) (writings : List PartWriting)
     → (added before writing).code ++ flat_map lines_in writings ≡ before.code ++ flat_map lines_in (writing ∷ writings)
@@ -149,84 +158,100 @@ numbers_more before writing writings =
     ap (λ (numbers : List Datum). numbers ++ flat_map data_in writings) (added-numbers before writing)
     ∙ append_assoc before.numbers (data_in writing) (flat_map data_in writings)
 
-write_more : (symbols : List Named) (one : Standing) (more : List Standing) (writing : PartWriting) (writings : List PartWriting)
-    → part_written symbols one ≡ Ok writing → WriteAll symbols more writings → WriteAll symbols (one ∷ more) (writing ∷ writings)
-write_more symbols one more writing writings is write = λ i. is i ∷ write i
+ticks_more : (before : Sum) (writing : PartWriting) (writings : List PartWriting)
+    → (added before writing).ticks ++ flat_map written_ticks writings ≡ before.ticks ++ flat_map written_ticks (writing ∷ writings)
+ticks_more before writing writings =
+    ap (λ (ticks : List ℕ). ticks ++ flat_map written_ticks writings) (added-ticks before writing)
+    ∙ append_assoc before.ticks (written_ticks writing) (flat_map written_ticks writings)
 
-abbrev Wrote : List Named → Sum → List Standing → Sum → Type 0
-Wrote symbols before standings end = (writings : List PartWriting) × WriteAll symbols standings writings
+write_more : (known : AllKnown) (one : Standing) (more : List Standing) (writing : PartWriting) (writings : List PartWriting)
+    → part_written known one ≡ Ok writing → WriteAll known more writings → WriteAll known (one ∷ more) (writing ∷ writings)
+write_more known one more writing writings is write = λ i. is i ∷ write i
+
+abbrev Wrote : AllKnown → Sum → List Standing → Sum → Type 0
+Wrote known before standings end = (writings : List PartWriting) × WriteAll known standings writings
     × (end.code ≡ before.code ++ flat_map lines_in writings) × (end.numbers ≡ before.numbers ++ flat_map data_in writings)
+    × (end.ticks ≡ before.ticks ++ flat_map written_ticks writings)
 
-wrote_by : (symbols : List Named) (before end : Sum) (one : Standing) (more : List Standing)
-    → ((next : Sum) → sum_in symbols next more ≡ Ok end → Wrote symbols next more end)
-    → (writing : Result PartWriting Fault) → part_written symbols one ≡ writing → adds_on symbols before more writing ≡ Ok end
-    → Wrote symbols before (one ∷ more) end
-wrote_by symbols before end one more later (Err fault) is same = absurd cc
-wrote_by symbols before end one more later (Ok writing) is same =
+wrote_by : (known : AllKnown) (before end : Sum) (one : Standing) (more : List Standing)
+    → ((next : Sum) → sum_in known next more ≡ Ok end → Wrote known next more end)
+    → (writing : Result PartWriting Fault) → part_written known one ≡ writing → adds_on known before more writing ≡ Ok end
+    → Wrote known before (one ∷ more) end
+wrote_by known before end one more later (Err fault) is same = absurd cc
+wrote_by known before end one more later (Ok writing) is same =
     let rest = later (added before writing) same in (
       writing ∷ rest.0,
-      write_more symbols one more writing rest.0 is rest.1,
+      write_more known one more writing rest.0 is rest.1,
       rest.2 ∙ code_more before writing rest.0,
       rest.3 ∙ numbers_more before writing rest.0,
+      rest.4 ∙ ticks_more before writing rest.0,
     )
 
-sum_writes : (symbols : List Named) (before end : Sum) (standings : List Standing) → sum_in symbols before standings ≡ Ok end
-    → Wrote symbols before standings end
-sum_writes symbols before end [] same =
+sum_writes : (known : AllKnown) (before end : Sum) (standings : List Standing) → sum_in known before standings ≡ Ok end
+    → Wrote known before standings end
+sum_writes known before end [] same =
     let e : before ≡ end = cc in
-    ([], refl, ap (λ (sum : Sum). sum.code) (sym e) ∙ sym (append-nil before.code), ap (λ (sum : Sum). sum.numbers) (sym e) ∙ sym (append-nil before.numbers))
-sum_writes symbols before end (one ∷ more) same =
-    wrote_by symbols before end one more (λ next on. sum_writes symbols next end more on) (part_written symbols one) refl same
+    let back = sym e in (
+      [],
+      refl,
+      ap (λ (sum : Sum). sum.code) back ∙ sym (append-nil before.code),
+      ap (λ (sum : Sum). sum.numbers) back ∙ sym (append-nil before.numbers),
+      ap (λ (sum : Sum). sum.ticks) back ∙ sym (append-nil before.ticks),
+    )
+sum_writes known before end (one ∷ more) same =
+    wrote_by known before end one more (λ next on. sum_writes known next end more on) (part_written known one) refl same
 
-abbrev Misses : List Named → List Standing → Fault → Type 0
-Misses symbols standings fault = (front : List Standing) × (one : Standing) × (behind : List Standing) × (writings : List PartWriting)
-    × (front ++ one ∷ behind ≡ standings) × WriteAll symbols front writings × (part_written symbols one ≡ Err fault)
+abbrev Misses : AllKnown → List Standing → Fault → Type 0
+Misses known standings fault = (front : List Standing) × (one : Standing) × (behind : List Standing) × (writings : List PartWriting)
+    × (front ++ one ∷ behind ≡ standings) × WriteAll known front writings × (part_written known one ≡ Err fault)
 
-misses_by : (symbols : List Named) (before : Sum) (fault : Fault) (one : Standing) (more : List Standing)
-    → ((next : Sum) → sum_in symbols next more ≡ Err fault → Misses symbols more fault)
-    → (writing : Result PartWriting Fault) → part_written symbols one ≡ writing → adds_on symbols before more writing ≡ Err fault
-    → Misses symbols (one ∷ more) fault
-misses_by symbols before fault one more later (Err other) is same =
+misses_by : (known : AllKnown) (before : Sum) (fault : Fault) (one : Standing) (more : List Standing)
+    → ((next : Sum) → sum_in known next more ≡ Err fault → Misses known more fault)
+    → (writing : Result PartWriting Fault) → part_written known one ≡ writing → adds_on known before more writing ≡ Err fault
+    → Misses known (one ∷ more) fault
+misses_by known before fault one more later (Err other) is same =
     let e : other ≡ fault = cc in
     ([], one, more, [], refl, refl, is ∙ ap Err e)
-misses_by symbols before fault one more later (Ok writing) is same =
+misses_by known before fault one more later (Ok writing) is same =
     let rest = later (added before writing) same in (
       one ∷ rest.0,
       rest.1,
       rest.2,
       writing ∷ rest.3,
       ap (λ (standings : List Standing). one ∷ standings) rest.4,
-      write_more symbols one rest.0 writing rest.3 is rest.5,
+      write_more known one rest.0 writing rest.3 is rest.5,
       rest.6,
     )
 
-sum_misses : (symbols : List Named) (before : Sum) (standings : List Standing) (fault : Fault) → sum_in symbols before standings ≡ Err fault
-    → Misses symbols standings fault
-sum_misses symbols before [] fault same = absurd cc
-sum_misses symbols before (one ∷ more) fault same =
-    misses_by symbols before fault one more (λ next on. sum_misses symbols next more fault on) (part_written symbols one) refl same
+sum_misses : (known : AllKnown) (before : Sum) (standings : List Standing) (fault : Fault) → sum_in known before standings ≡ Err fault
+    → Misses known standings fault
+sum_misses known before [] fault same = absurd cc
+sum_misses known before (one ∷ more) fault same =
+    misses_by known before fault one more (λ next on. sum_misses known next more fault on) (part_written known one) refl same
 
-writes_sum : (symbols : List Named) (before : Sum) (standings : List Standing) (writings : List PartWriting) → WriteAll symbols standings writings
-    → sum_in symbols before standings ≡ sum_ok (before.code ++ flat_map lines_in writings) (before.numbers ++ flat_map data_in writings)
-writes_sum symbols before [] [] write = λ i. sum_ok (sym (append-nil before.code) i) (sym (append-nil before.numbers) i)
-writes_sum symbols before [] (writing ∷ writings) write = absurd cc
-writes_sum symbols before (one ∷ more) [] write = absurd cc
-writes_sum symbols before (one ∷ more) (writing ∷ writings) write =
-    let first : part_written symbols one ≡ Ok writing = cc in
-    let rest : WriteAll symbols more writings = cc in
-    ap (adds_on symbols before more) first
-    ∙ writes_sum symbols (added before writing) more writings rest
-    ∙ (λ i. sum_ok (code_more before writing writings i) (numbers_more before writing writings i))
+writes_sum : (known : AllKnown) (before : Sum) (standings : List Standing) (writings : List PartWriting) → WriteAll known standings writings
+    → sum_in known before standings
+    ≡ sum_ok (before.code ++ flat_map lines_in writings) (before.numbers ++ flat_map data_in writings) (before.ticks ++ flat_map written_ticks writings)
+writes_sum known before [] [] write =
+    λ i. sum_ok (sym (append-nil before.code) i) (sym (append-nil before.numbers) i) (sym (append-nil before.ticks) i)
+writes_sum known before [] (writing ∷ writings) write = absurd cc
+writes_sum known before (one ∷ more) [] write = absurd cc
+writes_sum known before (one ∷ more) (writing ∷ writings) write =
+    let first : part_written known one ≡ Ok writing = cc in
+    let rest : WriteAll known more writings = cc in
+    ap (adds_on known before more) first
+    ∙ writes_sum known (added before writing) more writings rest
+    ∙ (λ i. sum_ok (code_more before writing writings i) (numbers_more before writing writings i) (ticks_more before writing writings i))
 
-misses_sum : (symbols : List Named) (before : Sum) (front : List Standing) (one : Standing) (behind : List Standing) (writings : List PartWriting) (fault : Fault)
-    → WriteAll symbols front writings → part_written symbols one ≡ Err fault → sum_in symbols before (front ++ one ∷ behind) ≡ Err fault
-misses_sum symbols before [] one behind writings fault write fails = ap (adds_on symbols before behind) fails
-misses_sum symbols before (first ∷ front) one behind [] fault write fails = absurd cc
-misses_sum symbols before (first ∷ front) one behind (writing ∷ writings) fault write fails =
-    let is : part_written symbols first ≡ Ok writing = cc in
-    let rest : WriteAll symbols front writings = cc in
-    ap (adds_on symbols before (front ++ one ∷ behind)) is
-    ∙ misses_sum symbols (added before writing) front one behind writings fault rest fails
+misses_sum : (known : AllKnown) (before : Sum) (front : List Standing) (one : Standing) (behind : List Standing) (writings : List PartWriting) (fault : Fault)
+    → WriteAll known front writings → part_written known one ≡ Err fault → sum_in known before (front ++ one ∷ behind) ≡ Err fault
+misses_sum known before [] one behind writings fault write fails = ap (adds_on known before behind) fails
+misses_sum known before (first ∷ front) one behind [] fault write fails = absurd cc
+misses_sum known before (first ∷ front) one behind (writing ∷ writings) fault write fails =
+    let is : part_written known first ≡ Ok writing = cc in
+    let rest : WriteAll known front writings = cc in
+    ap (adds_on known before (front ++ one ∷ behind)) is
+    ∙ misses_sum known (added before writing) front one behind writings fault rest fails
 
 -- ---- both passes, forth
 
@@ -279,11 +304,12 @@ module _ (parts : List Piece) (sizes : Laid) (has : laid_in 0 (nothing_laid zero
           let made : Image = record {
             code = sum.code;
             numbers = sum.numbers;
+            ticks = sum.ticks;
             symbols = laid.reached.symbols;
             ends = ends_of laid.reached;
           } in
           let e : made ≡ image = cc in
-          let wrote = sum_writes laid.reached.symbols nothing_written sum laid.standings adds in
+          let wrote = sum_writes (known_of laid.reached.symbols laid.standings) nothing_written sum laid.standings adds in
           record {
             standings = laid.standings;
             to = laid.reached;
@@ -294,6 +320,7 @@ module _ (parts : List Piece) (sizes : Laid) (has : laid_in 0 (nothing_laid zero
             write = wrote.1;
             code = ap (λ (one : Image). one.code) (sym e) ∙ wrote.2;
             numbers = ap (λ (one : Image). one.numbers) (sym e) ∙ wrote.3;
+            ticks = ap (λ (one : Image). one.ticks) (sym e) ∙ wrote.4;
           }
 
       missed_by : (fault : Fault) (settled : are_settled bases sizes.reached.counters laid.reached.counters ≡ true)
@@ -301,7 +328,9 @@ module _ (parts : List Piece) (sizes : Laid) (has : laid_in 0 (nothing_laid zero
       missed_by fault settled (Ok sum) adds same = absurd cc
       missed_by fault settled (Err other) adds same =
           let e : other ≡ fault = cc in
-          let m = sum_misses laid.reached.symbols nothing_written laid.standings fault (adds ∙ ap Err e) in
+          let known : AllKnown = known_of laid.reached.symbols laid.standings in
+          let m = sum_misses known nothing_written laid.standings fault (adds ∙ ap Err e) in
+          let same_known : known ≡ known_of laid.reached.symbols (m.0 ++ m.1 ∷ m.2) = ap (known_of laid.reached.symbols) (sym m.4) in
           inr (inr (inr (inr (record {
             before = m.0;
             one = m.1;
@@ -309,8 +338,8 @@ module _ (parts : List Piece) (sizes : Laid) (has : laid_in 0 (nothing_laid zero
             to = laid.reached;
             writings = m.3;
             settle = subst (λ (s : List Standing). Settle parts s laid.reached) (sym m.4) (settle_of settled);
-            write = m.5;
-            fails = m.6;
+            write = subst (λ (k : AllKnown). WriteAll k m.0 m.3) same_known m.5;
+            fails = subst (λ (k : AllKnown). part_written k m.1 ≡ Err fault) same_known m.6;
           }))))
 
       say_settled : (image : Image) (settled : Bool) → are_settled bases sizes.reached.counters laid.reached.counters ≡ settled
@@ -409,7 +438,7 @@ back_sizes parts sizes have bases follow =
 back_laid : (parts : List Piece) (sizes bases : Counters) (have : HaveSizes parts sizes) → bases_of sizes ≡ Some bases
     → (standings : List Standing) (to : PartsReach) → Stand bases parts standings to → (settled : Bool)
     → are_settled bases sizes to.counters ≡ settled
-    → program_in parts ≡ (if settled then imaged (record { reached = to; standings = standings }) (sum_in to.symbols nothing_written standings) else wrong_at Unsettled 0)
+    → program_in parts ≡ (if settled then imaged (record { reached = to; standings = standings }) (sum_in (known_of to.symbols standings) nothing_written standings) else wrong_at Unsettled 0)
 back_laid parts sizes bases have follow standings to stand settled same =
     let first : Laid = record { reached = have.to; standings = have.standings } in
     let laid : Laid = record { reached = to; standings = standings } in
@@ -423,8 +452,8 @@ of_say parts image say =
     let laid : Laid = record { reached = say.to; standings = say.standings } in
     let s = say.settle in
     back_laid parts s.sizes s.bases s.have_sizes s.follow say.standings say.to s.stand true s.same
-    ∙ ap (imaged laid) (writes_sum say.to.symbols nothing_written say.standings say.writings say.write)
-    ∙ (λ i. image_ok (sym say.code i) (sym say.numbers i) (sym say.symbols i) (sym say.ends i))
+    ∙ ap (imaged laid) (writes_sum (known_of say.to.symbols say.standings) nothing_written say.standings say.writings say.write)
+    ∙ (λ i. image_ok (sym say.code i) (sym say.numbers i) (sym say.ticks i) (sym say.symbols i) (sym say.ends i))
 
 of_have : (parts : List Piece) (fault : Fault) → HaveFault parts fault → program_in parts ≡ Err fault
 of_have parts fault (inl cant) = ap (with_laid (sized_by parts)) (cant_laid zeros parts fault cant)
@@ -441,7 +470,7 @@ of_have parts fault (inr (inr (inr (inr cant)))) =
     let laid : Laid = record { reached = cant.to; standings = standings } in
     let s = cant.settle in
     back_laid parts s.sizes s.bases s.have_sizes s.follow standings cant.to s.stand true s.same
-    ∙ ap (imaged laid) (misses_sum cant.to.symbols nothing_written cant.before cant.one cant.behind cant.writings fault cant.write cant.fails)
+    ∙ ap (imaged laid) (misses_sum (known_of cant.to.symbols standings) nothing_written cant.before cant.one cant.behind cant.writings fault cant.write cant.fails)
 
 -- ---- texts
 

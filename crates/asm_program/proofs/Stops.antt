@@ -1,7 +1,6 @@
 -- What stops a part of a pass stops the pass.
 use Rattle.std.proofs.Common.{◌≡◌, ◌∙◌, ℕ, suc, List, ◌∷◌, sym, ap, Result, Err}
 use Rattle.asm_expressions.specs.declared.faults.Fault.{Fault}
-use Rattle.asm_expressions.specs.Symbols.{Named}
 use Rattle.asm_program.specs.declared.data.Datum.{Datum}
 use Rattle.asm_program.specs.declared.stop.Stop.{Stop}
 use Rattle.asm_program.specs.declared.stop.Stop.TheVariants as reasons
@@ -9,8 +8,8 @@ use Rattle.asm_program.specs.Assembles.{Image}
 use Rattle.asm_program.specs.Inside.Passes.{Laid, StopsAt, Sum, added_if, laid_in, laid_more, laid_on, sum_in, sum_on, with_before}
 use Rattle.asm_program.specs.Layout.{Standing}
 use Rattle.asm_program.specs.Parts.{Piece}
-use Rattle.asm_program.specs.Written.{as_numbers, part_written}
-use Rattle.asm_program.proofs.More.{numbers_fail}
+use Rattle.asm_program.specs.Written.{AllKnown, as_numbers, as_ticks, part_written}
+use Rattle.asm_program.proofs.More.{numbers_fail, ticks_fail}
 
 -- a fault that stops a pass is that of what was computed
 pub stops_fault : {A : Type 0} (computed : Result A Fault) (found : Fault) (stop : Stop) → stop ≡ reasons.At found → computed ≡ Err found → StopsAt computed stop
@@ -25,14 +24,18 @@ pub stops_laid : (number : ℕ) (laid : Laid) (part : Piece) (parts : List Piece
 stops_laid number laid part parts whole stop same stops =
     λ fault is. sym same ∙ ap (laid_on (λ next. laid_in (suc number) next parts)) (stops fault is)
 
-pub stops_sum : (symbols : List Named) (before : Sum) (one : Standing) (more : List Standing) (whole : Result Sum Fault) (stop : Stop)
-    → sum_in symbols before (one ∷ more) ≡ whole → StopsAt (added_if before (part_written symbols one)) stop → StopsAt whole stop
-stops_sum symbols before one more whole stop same stops =
-    λ fault is. sym same ∙ ap (sum_on (λ next. sum_in symbols next more)) (stops fault is)
+pub stops_sum : (known : AllKnown) (before : Sum) (one : Standing) (more : List Standing) (whole : Result Sum Fault) (stop : Stop)
+    → sum_in known before (one ∷ more) ≡ whole → StopsAt (added_if before (part_written known one)) stop → StopsAt whole stop
+stops_sum known before one more whole stop same stops =
+    λ fault is. sym same ∙ ap (sum_on (λ next. sum_in known next more)) (stops fault is)
 
 pub stops_numbers : (before : Sum) (numbers : Result (List Datum) Fault) (stop : Stop)
     → StopsAt (with_before before.numbers numbers) stop → StopsAt (added_if before (as_numbers numbers)) stop
 stops_numbers before numbers stop stops = λ fault is. numbers_fail before numbers fault (stops fault is)
+
+pub stops_ticks : (before : Sum) (ticks : Result (List ℕ) Fault) (stop : Stop)
+    → StopsAt (with_before before.ticks ticks) stop → StopsAt (added_if before (as_ticks ticks)) stop
+stops_ticks before ticks stop stops = λ fault is. ticks_fail before ticks fault (stops fault is)
 
 -- a pass whose fault is the program's
 pub stops_program : {A : Type 0} (later : Result A Fault → Result Image Fault) (pass : Result A Fault) (stop : Stop)

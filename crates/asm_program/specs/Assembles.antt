@@ -18,12 +18,13 @@ use Rattle.asm_program.specs.declared.sections.Counters.{Counters}
 use Rattle.asm_program.specs.Layout.{PartsReach, Standing, before_parts, ends_of, standing, reach_more}
 use Rattle.asm_program.specs.Parts.{Piece, parts_of}
 use Rattle.asm_program.specs.Sections.{are_settled, bases_of, zeros}
-use Rattle.asm_program.specs.Written.{PartWriting, data_in, lines_in, part_written}
+use Rattle.asm_program.specs.Written.{AllKnown, PartWriting, written_ticks, data_in, known_of, lines_in, part_written}
 
--- instructions and data at their addresses, the symbols, and where sections end
+-- instructions and data at their addresses, the clock's ticks, the symbols, and where sections end
 pub record Image : Type 0 where
   pub code : List CodeLine
   pub numbers : List Datum
+  pub ticks : List ℕ
   pub symbols : List Named
   pub ends : List ℕ
 
@@ -32,6 +33,7 @@ abbrev pub image_of : Assembly → Image
 image_of program = record {
   code = program.code.items;
   numbers = program.data.items;
+  ticks = program.ticks.items;
   symbols = map named_of program.symbols.items;
   ends = program.ends.items;
 }
@@ -66,12 +68,12 @@ pub record Settle (parts : List Piece) (standings : List Standing) (to : PartsRe
   pub stand : Stand bases parts standings to
   pub same : are_settled bases sizes to.counters ≡ true
 
--- each part writes this, when it sees all symbols
-abbrev pub WriteAll : List Named → List Standing → List PartWriting → Type 0
-WriteAll symbols standings writings = map (part_written symbols) standings ≡ map Ok writings
+-- each part writes this, when so much is known
+abbrev pub WriteAll : AllKnown → List Standing → List PartWriting → Type 0
+WriteAll known standings writings = map (part_written known) standings ≡ map Ok writings
 
--- Parts say a program: its symbols are those that they define, its ends are where they end, and its instructions and data are those
--- that they write.
+-- Parts say a program: its symbols are those that they define, its ends are where they end, and its instructions, data and ticks are
+-- those that they write.
 pub record SayProgram (parts : List Piece) (image : Image) : Type 0 where
   pub standings : List Standing
   pub to : PartsReach
@@ -79,9 +81,10 @@ pub record SayProgram (parts : List Piece) (image : Image) : Type 0 where
   pub settle : Settle parts standings to
   pub symbols : image.symbols ≡ to.symbols
   pub ends : image.ends ≡ ends_of to
-  pub write : WriteAll to.symbols standings writings
+  pub write : WriteAll (known_of to.symbols standings) standings writings
   pub code : image.code ≡ flat_map lines_in writings
   pub numbers : image.numbers ≡ flat_map data_in writings
+  pub ticks : image.ticks ≡ flat_map written_ticks writings
 
 -- ---- faults
 
@@ -130,8 +133,8 @@ pub record CantWrite (parts : List Piece) (fault : Fault) : Type 0 where
   pub to : PartsReach
   pub writings : List PartWriting
   pub settle : Settle parts (before ++ one ∷ behind) to
-  pub write : WriteAll to.symbols before writings
-  pub fails : part_written to.symbols one ≡ Err fault
+  pub write : WriteAll (known_of to.symbols (before ++ one ∷ behind)) before writings
+  pub fails : part_written (known_of to.symbols (before ++ one ∷ behind)) one ≡ Err fault
 
 -- The first fault of parts: of one that can't stand where each section before_parts at 0; or of the sections together; or of one that
 -- can't stand behind the other sections; or if all can, of one that can't be part_written.

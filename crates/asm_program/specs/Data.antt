@@ -1,4 +1,5 @@
--- The data of a program: numbers of 1, 2, 4 or 8 bytes (GNU as, .byte, .2byte, .4byte, .8byte; RISC-V-Directives).
+-- The data of a program, numbers of 1, 2, 4 or 8 bytes (GNU as, .byte, .2byte, .4byte, .8byte; RISC-V-Directives); and the clock's
+-- ticks (profile).
 use Rattle.std.specs.Prelude.{ℕ, zero, suc, ◌+◌, ◌/◌, ◌%◌, ◌^◌, nat_lt, ◌||◌, ◌==◌, if◌then◌else◌, List, [], ◌∷◌, length, Option, Some, None, Result, Ok, Err}
 use Rattle.asm_expressions.specs.declared.faults.Fault.{Fault}
 use Rattle.asm_expressions.specs.declared.faults.Wrong.TheVariants.{OutOfRange}
@@ -31,18 +32,18 @@ number_of scope size left tokens = do
 abbrev pub datum_at : (at size value : ℕ) → Datum
 datum_at at size value = record { at = at; size = size; value = value }
 
-abbrev pub before_more : Datum → Result (List Datum) Fault → Result (List Datum) Fault
-before_more datum (Err fault) = Err fault
-before_more datum (Ok more) = Ok (datum ∷ more)
+abbrev pub before_more : {A : Type 0} → A → Result (List A) Fault → Result (List A) Fault
+before_more first (Err fault) = Err fault
+before_more first (Ok more) = Ok (first ∷ more)
 
-abbrev pub more_numbers_if : (later : List TokenSpot → Result (List Datum) Fault) → Datum → Option (List TokenSpot) → Result (List Datum) Fault
-more_numbers_if later datum None = Ok (datum ∷ [])
-more_numbers_if later datum (Some behind) = before_more datum (later behind)
+abbrev pub more_if : {A : Type 0} → (later : List TokenSpot → Result (List A) Fault) → A → Option (List TokenSpot) → Result (List A) Fault
+more_if later first None = Ok (first ∷ [])
+more_if later first (Some behind) = before_more first (later behind)
 
 abbrev pub numbers_by : (size at : ℕ) → List TokenSpot → (later : (at : ℕ) → List TokenSpot → Result (List Datum) Fault) → Result ℕ Fault → Result (List Datum) Fault
 numbers_by size at tokens later (Err fault) = Err fault
 numbers_by size at tokens later (Ok value) =
-    more_numbers_if (later ((at + size) % 2 ^ 64)) (datum_at at size value) (behind_comma tokens)
+    more_if (later ((at + size) % 2 ^ 64)) (datum_at at size value) (behind_comma tokens)
 
 abbrev pub numbers_in : Context → (size left n at : ℕ) → List TokenSpot → Result (List Datum) Fault
 numbers_in scope size left zero at tokens = Ok []
@@ -52,3 +53,17 @@ numbers_in scope size left (suc n) at tokens =
 -- Numbers of a size with commas between them, one behind the other. (There are no more than tokens.)
 abbrev pub listed_numbers : Context → (size left : ℕ) → List TokenSpot → Result (List Datum) Fault
 listed_numbers scope size left tokens = numbers_in scope size left (length tokens) scope.here tokens
+
+-- ---- ticks
+
+abbrev pub tick_list_by : List TokenSpot → (later : List TokenSpot → Result (List ℕ) Fault) → Result ℕ Fault → Result (List ℕ) Fault
+tick_list_by tokens later (Err fault) = Err fault
+tick_list_by tokens later (Ok value) = more_if later value (behind_comma tokens)
+
+abbrev pub tick_list : Context → (n : ℕ) → List TokenSpot → Result (List ℕ) Fault
+tick_list scope zero tokens = Ok []
+tick_list scope (suc n) tokens = tick_list_by tokens (tick_list scope n) (value_of scope (operand_front tokens))
+
+-- Values with commas between them. (There are no more than tokens.)
+abbrev pub listed_ticks : Context → List TokenSpot → Result (List ℕ) Fault
+listed_ticks scope tokens = tick_list scope (length tokens) tokens

@@ -161,7 +161,7 @@ before_parts bases = record { section = Absolute; counters = bases; symbols = []
 -- what is known at a part, by what stands above it
 abbrev pub seen_above : (number : ℕ) → PartsReach → Piece → Context
 seen_above number from part =
-    record { symbols = from.symbols; statement = number; here = next_address from; end = part.end }
+    record { symbols = from.symbols; highs = []; statement = number; here = next_address from; end = part.end }
 
 abbrev pub reached_with : PartsReach → PartChange → PartsReach
 reached_with from Stays = from

@@ -27,6 +27,8 @@ pub struct Assembly<'a> {
     pub code: Vec<CodeLine>,
     /// Its data, with their addresses.
     pub data: Vec<Datum>,
+    /// The clock's ticks, in order.
+    pub ticks: Vec<u64>,
     /// Its symbols, in the order of the parts that define them.
     pub symbols: Vec<Symbol<'a>>,
     /// Where its sections end: the addresses that `.org` left, and those behind each section.
@@ -140,12 +142,13 @@ fn written<'a>(alloc: Global, layout: Layout<'_, 'a>) -> Result<Assembly<'a>, St
         left,
         statements,
     } = layout;
-    let Output { code, data } = write_all(alloc, symbols.as_slice(), statements.as_slice())?;
+    let Output { code, data, ticks } = write_all(alloc, symbols.as_slice(), statements.as_slice())?;
     let mut ends = left;
     add_counters(&mut ends, &counters)?;
     Ok(Assembly {
         code,
         data,
+        ticks,
         symbols,
         ends,
     })

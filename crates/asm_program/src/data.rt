@@ -1,7 +1,7 @@
-//! The data of a program.
+//! The data of a program, and the clock's ticks.
 ghost use Rattle.std.specs.Prelude.{◌≡◌, ◌<◌, IfErr, OnOk};
 ghost use Rattle.asm_expressions.specs.Symbols.{context_of};
-ghost use Rattle.asm_program.specs.Data.{low_of, number_of, listed_numbers};
+ghost use Rattle.asm_program.specs.Data.{low_of, number_of, listed_numbers, listed_ticks};
 ghost use Rattle.asm_program.specs.Inside.Passes.{StopsAt, with_before};
 ghost use Rattle.asm_tokens.specs.Readings.{spots_of};
 
@@ -46,6 +46,31 @@ pub(crate) fn add_numbers(
         };
         rest = behind;
         at = at.wrapping_add(size);
+        most -= 1;
+    }
+    Ok(())
+}
+
+/// Adds ticks of the clock with commas between them.
+#[tactic(auto, using(crate::proofs::More::ticks_more, crate::proofs::More::before_one, crate::proofs::More::before_none, crate::proofs::More::spots_length))]
+pub(crate) fn add_ticks(
+    ticks: &mut Vec<u64>,
+    scope: &Scope<'_, '_>,
+    operands: &[Placed<'_>],
+) -> Result<(), Stop>
+    ensures added { OnOk result (with_before ticks.old.items (listed_ticks (context_of scope.now) (spots_of operands.now)) ≡ Ok ticks.new.items) }
+    ensures fault { IfErr result (StopsAt (with_before ticks.old.items (listed_ticks (context_of scope.now) (spots_of operands.now)))) }
+{
+    let (_, mut rest) = operands.split_at(0);
+    let mut most = operands.len();
+    'ticks: while most > 0 {
+        let (front, behind) = first_operand(rest);
+        let value = value_of(scope, front)?;
+        ticks.push(value)?;
+        let Some(behind) = behind else {
+            return Ok(());
+        };
+        rest = behind;
         most -= 1;
     }
     Ok(())

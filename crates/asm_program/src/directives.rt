@@ -13,6 +13,8 @@ pub(crate) enum Directive {
     Org,
     /// `.byte`, `.half`, `.word`, `.dword` and the like: numbers of so many bytes; of none by `.board`.
     Data(u64),
+    /// `.tick`: ticks of the clock.
+    Tick,
     /// `.ascii`: the bytes of a string; by `.asciz` and `.string` with a 0 behind them.
     Ascii(bool),
     /// `.zero`, `.space` and `.skip`: so many bytes that are 0.
@@ -62,7 +64,7 @@ fn directive_in(rows: &[(&[u8], Directive)], word: &[u8]) -> Option<Directive>
 }
 
 /// All directives by their names. The last ones tell linkers and debuggers something.
-pub(crate) const DIRECTIVES: [(&[u8], Directive); 41] = [
+pub(crate) const DIRECTIVES: [(&[u8], Directive); 42] = [
     (b".board", Directive::Data(0)),
     (b".byte", Directive::Data(1)),
     (b".half", Directive::Data(2)),
@@ -74,6 +76,7 @@ pub(crate) const DIRECTIVES: [(&[u8], Directive); 41] = [
     (b".dword", Directive::Data(8)),
     (b".quad", Directive::Data(8)),
     (b".8byte", Directive::Data(8)),
+    (b".tick", Directive::Tick),
     (b".ascii", Directive::Ascii(false)),
     (b".asciz", Directive::Ascii(true)),
     (b".string", Directive::Ascii(true)),

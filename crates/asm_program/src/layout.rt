@@ -84,6 +84,7 @@ impl<'t, 'a> Layout<'t, 'a> {
     {
         let scope = Scope {
             symbols: self.symbols.as_slice(),
+            highs: &[],
             statement: number,
             here: at,
             end: part.end,

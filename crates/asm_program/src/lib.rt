@@ -8,6 +8,7 @@ mod code;
 mod data;
 mod directives;
 mod forms;
+mod highs;
 mod laws;
 mod layout;
 mod moves;

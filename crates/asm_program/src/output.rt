@@ -3,29 +3,32 @@ ghost use Rattle.std.specs.Prelude.{◌≡◌, IfErr, IfOk, OnOk, map};
 ghost use Rattle.asm_expressions.specs.Symbols.{context_of, named_of};
 ghost use Rattle.asm_program.specs.Forms.PartForm.{Directs, Instructs};
 ghost use Rattle.asm_program.specs.Inside.Passes.{StopsAt, added_if, nothing_written, standing_of, sum_in, sum_of};
-ghost use Rattle.asm_program.specs.Written.{part_written, form_written};
+ghost use Rattle.asm_program.specs.Written.{form_written, known_of, part_written};
 ghost use Rattle.asm_tokens.specs.Readings.{spots_of};
 
 use crate::code::{CodeLine, add_lines};
-use crate::data::{Datum, add_numbers};
+use crate::data::{Datum, add_numbers, add_ticks};
 use crate::directives::Directive;
 use crate::forms::{Form, read_form};
+use crate::highs::all_highs;
 use crate::layout::Statement;
 use crate::stop::Stop;
 use crate::strings::add_string;
-use asm_expressions::{Scope, Symbol};
+use asm_expressions::{PcrelHigh, Scope, Symbol};
 use asm_instructions::instructions_of;
 use asm_mnemonics::OperandForm;
 use asm_tokens::Placed;
 use std::alloc::Global;
 
-/// Instructions and data, with their addresses.
+/// Instructions and data, with their addresses, and the clock's ticks.
 #[derive(Drop)]
 pub(crate) struct Output {
     /// The instructions.
     pub code: Vec<CodeLine>,
     /// The data.
     pub data: Vec<Datum>,
+    /// The clock's ticks.
+    pub ticks: Vec<u64>,
 }
 
 /// What all parts write, where they stand.
@@ -34,15 +37,30 @@ pub(crate) fn write_all(
     symbols: &[Symbol<'_>],
     statements: &[Statement<'_, '_>],
 ) -> Result<Output, Stop>
-    ensures sum { IfOk result (λ output. sum_in (map named_of symbols.now) nothing_written (map standing_of statements.now) ≡ Ok (sum_of output)) }
-    ensures fault { IfErr result (StopsAt (sum_in (map named_of symbols.now) nothing_written (map standing_of statements.now))) }
+    ensures sum { IfOk result (λ output. sum_in (known_of (map named_of symbols.now) (map standing_of statements.now)) nothing_written (map standing_of statements.now) ≡ Ok (sum_of output)) }
+    ensures fault { IfErr result (StopsAt (sum_in (known_of (map named_of symbols.now) (map standing_of statements.now)) nothing_written (map standing_of statements.now))) }
+{
+    let highs = all_highs(alloc, symbols, statements)?;
+    write_each(alloc, symbols, highs.as_slice(), statements)
+}
+
+/// What each part writes where so much is known.
+fn write_each(
+    alloc: Global,
+    symbols: &[Symbol<'_>],
+    highs: &[PcrelHigh],
+    statements: &[Statement<'_, '_>],
+) -> Result<Output, Stop>
+    ensures sum { IfOk result (λ output. sum_in (record { symbols = map named_of symbols.now; highs = highs.now }) nothing_written (map standing_of statements.now) ≡ Ok (sum_of output)) }
+    ensures fault { IfErr result (StopsAt (sum_in (record { symbols = map named_of symbols.now; highs = highs.now }) nothing_written (map standing_of statements.now))) }
 {
     let mut output = Output {
         code: Vec::new(alloc),
         data: Vec::new(alloc),
+        ticks: Vec::new(alloc),
     };
     for statement in statements {
-        output.add(symbols, statement)?;
+        output.add(symbols, highs, statement)?;
     }
     Ok(output)
 }
@@ -50,12 +68,18 @@ pub(crate) fn write_all(
 impl Output {
     /// Adds what a part writes.
     #[tactic(auto, unfolding(crate::specs::Written::part_written))]
-    fn add(&mut self, symbols: &[Symbol<'_>], statement: &Statement<'_, '_>) -> Result<(), Stop>
-        ensures added { OnOk result (added_if (sum_of self.old) (part_written (map named_of symbols.now) (standing_of statement.now)) ≡ Ok (sum_of self.new)) }
-        ensures fault { IfErr result (StopsAt (added_if (sum_of self.old) (part_written (map named_of symbols.now) (standing_of statement.now)))) }
+    fn add(
+        &mut self,
+        symbols: &[Symbol<'_>],
+        highs: &[PcrelHigh],
+        statement: &Statement<'_, '_>,
+    ) -> Result<(), Stop>
+        ensures added { OnOk result (added_if (sum_of self.old) (part_written (record { symbols = map named_of symbols.now; highs = highs.now }) (standing_of statement.now)) ≡ Ok (sum_of self.new)) }
+        ensures fault { IfErr result (StopsAt (added_if (sum_of self.old) (part_written (record { symbols = map named_of symbols.now; highs = highs.now }) (standing_of statement.now)))) }
     {
         let scope = Scope {
             symbols,
+            highs,
             statement: statement.number,
             here: statement.at,
             end: statement.part.end,
@@ -88,8 +112,8 @@ impl Output {
         }
     }
 
-    /// Adds the data of a directive.
-    #[tactic(auto, using(crate::proofs::More::numbers_added, crate::proofs::Stops::stops_numbers))]
+    /// Adds the data or the ticks of a directive.
+    #[tactic(auto, using(crate::proofs::More::numbers_added, crate::proofs::More::ticks_added, crate::proofs::Stops::stops_numbers, crate::proofs::Stops::stops_ticks))]
     fn add_data(
         &mut self,
         scope: &Scope<'_, '_>,
@@ -102,6 +126,7 @@ impl Output {
     {
         match directive {
             Directive::Data(size) => add_numbers(&mut self.data, scope, size, left, operands),
+            Directive::Tick => add_ticks(&mut self.ticks, scope, operands),
             Directive::Ascii(is_ended) => {
                 add_string(&mut self.data, scope.here, is_ended, left, operands)
             }

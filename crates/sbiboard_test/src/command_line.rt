@@ -45,6 +45,8 @@ A condition is a comment of a script that begins with `#!`, as in
 docs/FORMATS.md has all of them. The output is points of the Test Anything Protocol.
 If a program has few states, all of its orders are judged, as by `explore`; otherwise, and with --times, --seed, --order or
 --threads, orders that the seed picks.
+FILEs that end in .s are programs in assembly (docs/ASSEMBLY.md); of the options they take --times, --seed, --failed, --tap, --tap-version,
+--junit, --html and --json.
 
 Exit status: 0 all hold, 1 some don't, 2 usage, 6 no memory, 7 input or output failed, 8 not all was judged.";
 
@@ -52,7 +54,8 @@ const AFTER_EXPLORE: &str = "\
 A condition is a comment of a script that begins with `#!`, as `#! never 2 load 0x1000 -> value 0x11`; docs/FORMATS.md has all.
 A condition that holds in all orders, of any length, is proved to hold in all histories of the program.
 A state takes some 2 KB for three harts whose RAM is mostly 0.
-FILEs that end in .s are programs in assembly (docs/ASSEMBLY.md); of the options they take --states, --failed, --tap-version and --json.
+FILEs that end in .s are programs in assembly (docs/ASSEMBLY.md); of the options they take --states, --failed, --tap, --tap-version,
+--junit, --html and --json.
 
 Exit status: 0 all hold, 1 some don't, 2 usage, 6 no memory, 7 input or output failed, 8 not all was judged or seen.";
 

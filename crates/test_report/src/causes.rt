@@ -62,7 +62,7 @@ fn said_of(alloc: Global, event: Option<&Event>) -> Result<String, AllocError> {
 /// The line of the step in a place: of the file's steps, or of a guest's operation in its block.
 fn line_of(case: &Case<'_>, record: &RecordParts<'_>, place: usize) -> Option<u64> {
     if let Some(lines) = record.lines {
-        return lines.get(place).copied();
+        return lines.get(place).copied().filter(|line| *line != 0);
     }
     let event = record.events.get(place)?;
     let Actor::Hart(hart) = event.actor() else {

@@ -61,10 +61,14 @@ pub enum Detail {
     Unwritten(Unwritten),
     /// The place of a step, from 0, and the steps around it, each with its place.
     Steps(usize, Vec<(usize, Event)>),
+    /// The same, with the steps as text.
+    Noted(usize, Vec<(usize, String)>),
     /// Why accesses of the record have a mark.
     Causes(Vec<ToldCause>),
     /// The harts that can't go on.
     Stuck(Vec<StuckHart>),
+    /// Where harts stand that can't go on, as text.
+    Standing(Vec<String>),
     /// The lines of a trace that differ.
     Lines(Vec<Difference>),
 }
@@ -93,11 +97,27 @@ impl Detail {
                 writeln!(text, "{margin}place: {place}\n{margin}steps: |")?;
                 put_steps(alloc, margin, steps, text)
             }
+            Detail::Noted(place, steps) => {
+                writeln!(text, "{margin}place: {place}\n{margin}steps: |")?;
+                for (k, step) in steps {
+                    writeln!(text, "{margin}  {k} {step}")?;
+                }
+                Ok(())
+            }
             Detail::Causes(causes) => put_causes(alloc, margin, causes, text),
             Detail::Stuck(harts) => {
                 writeln!(text, "{margin}stuck:")?;
                 for hart in harts {
                     writeln!(text, "{margin}  - \"{hart}\"")?;
+                }
+                Ok(())
+            }
+            Detail::Standing(harts) => {
+                writeln!(text, "{margin}stuck:")?;
+                for hart in harts {
+                    write!(text, "{margin}  - ")?;
+                    put_quoted(hart.as_str(), text)?;
+                    text.push('\n')?;
                 }
                 Ok(())
             }

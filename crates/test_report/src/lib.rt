@@ -22,7 +22,7 @@ pub use causes::ToldCause;
 pub use counts::{AllOrders, Counts};
 pub use details::{Detail, Difference, Unwritten};
 pub use missing::{Missing, lack_of};
-pub use notes::{Given, LoadGave, Note, Outcome, Stale, StaleAccess};
+pub use notes::{Given, LoadGave, Note, Outcome, STALE_IN_SOME, Stale, StaleAccess};
 pub use page::{Page, Style};
 pub use point::{Point, named};
 pub use records::{RecordParts, record, step_line};

@@ -46,6 +46,10 @@ impl fmt::Display for StaleAccess {
     }
 }
 
+/// What is told of an access that is stale in some order.
+pub const STALE_IN_SOME: &str =
+    "stale in some order: a walk gives another translation; `#! never stale` tells the order";
+
 /// What a load, a fetch or an AMO gave: a value, or the number of its fault's cause.
 #[derive(Clone, Copy, PartialEq, Eq, Hash)]
 pub enum Given {
@@ -86,6 +90,8 @@ pub enum Note {
     NeverMet(u64),
     /// The access of a line was stale.
     Stale(StaleAccess),
+    /// The access of a line is stale in some order.
+    StaleInSome(u64),
     /// The step of a schedule's line was refused, by this number.
     Refused(u64, u64),
     /// No order entered the block of a line, at this address.
@@ -118,6 +124,7 @@ impl fmt::Display for Note {
                 )
             }
             Note::Stale(access) => write!(f, "{access}"),
+            Note::StaleInSome(line) => write!(f, "line {line}: {STALE_IN_SOME}"),
             Note::Refused(line, refusal) => write!(f, "line {line}: refused {refusal}"),
             Note::NotEntered(line, addr) => {
                 write!(f, "line {line}: no order entered the block at {addr:#x}")

@@ -85,7 +85,7 @@ pub struct RecordParts<'a> {
     pub events: &'a [Event],
     /// How it ended, where that counts.
     pub end: Option<End>,
-    /// The lines of the events in the file; of a program the guests' places tell them.
+    /// The lines of the events in the file, 0 of one that has none; of a program of blocks the guests' places tell them.
     pub lines: Option<&'a [u64]>,
 }
 

@@ -177,7 +177,7 @@ fn stale_causes<R: AllocGlobal>(
             })?;
         }
     }
-    told_causes(trial, course.record(events), &asked)
+    told_causes(trial.rt.alloc(), &trial.case, course.record(events), &asked)
 }
 
 /// The point of a schedule's or a trace's lines.
@@ -220,7 +220,7 @@ fn judge<R: AllocGlobal + Files>(
         let record = course.record(events);
         keep(trial, "failed", record, place, &mut point.details)?;
         if let Some(marks) = marks {
-            put_causes(trial, rule, record, marks, &mut point.details)?;
+            put_causes(alloc, &trial.case, rule, record, marks, &mut point.details)?;
         }
     }
     file.push(point)?;

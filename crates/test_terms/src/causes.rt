@@ -1,11 +1,11 @@
 //! Why the accesses of a failing record have the marks that a condition asks of.
 ghost use Rattle.std.specs.Prelude.{◌≡◌, length};
 
-use crate::trial::Trial;
 use access_causes::{Asked, Asks, causes_of};
 use access_marks::Marks;
 use board_core::Event;
 use conditions::{Mark, Pattern, Rule};
+use diagnostics::Case;
 use marked_conditions::{failing_step_with, first_with, mark_of};
 use std::alloc::{AllocError, Global};
 use test_report::{Detail, RecordParts, ToldCause};
@@ -15,8 +15,9 @@ use test_report::{Detail, RecordParts, ToldCause};
 /// # Errors
 ///
 /// Memory was refused.
-pub fn put_causes<R: AllocGlobal>(
-    trial: &Trial<'_, R>,
+pub fn put_causes(
+    alloc: Global,
+    case: &Case<'_>,
     rule: &Rule,
     record: RecordParts<'_>,
     marks: &[Marks],
@@ -24,8 +25,8 @@ pub fn put_causes<R: AllocGlobal>(
 ) -> Result<(), AllocError>
     requires { length record.events.now ≡ length marks.now }
 {
-    let asked = marked_accesses(trial.rt.alloc(), rule, record.events, marks)?;
-    let causes = told_causes(trial, record, &asked)?;
+    let asked = marked_accesses(alloc, rule, record.events, marks)?;
+    let causes = told_causes(alloc, case, record, &asked)?;
     if !causes.is_empty() {
         details.push(Detail::Causes(causes))?;
     }
@@ -37,18 +38,18 @@ pub fn put_causes<R: AllocGlobal>(
 /// # Errors
 ///
 /// Memory was refused.
-pub fn told_causes<R: AllocGlobal>(
-    trial: &Trial<'_, R>,
+pub fn told_causes(
+    alloc: Global,
+    case: &Case<'_>,
     record: RecordParts<'_>,
     asked: &[Asked],
 ) -> Result<Vec<ToldCause>, AllocError> {
-    let alloc = trial.rt.alloc();
     let mut told = Vec::new(alloc);
     if asked.is_empty() {
         return Ok(told);
     }
     for cause in causes_of(alloc, record.board.config(), record.events, asked)? {
-        told.push(ToldCause::of(alloc, &trial.case, &record, cause)?)?;
+        told.push(ToldCause::of(alloc, case, &record, cause)?)?;
     }
     Ok(told)
 }

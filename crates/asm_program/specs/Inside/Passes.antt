@@ -27,8 +27,8 @@ use Rattle.asm_program.specs.Layout.{PartChange, PartsReach, Standing, before_pa
 use Rattle.asm_program.specs.Layout.PartChange.{Stays, Moves, Enters, Goes, Defines, Reserves}
 use Rattle.asm_program.specs.Parts.{Piece, piece_of}
 use Rattle.asm_program.specs.Sections.{are_settled, bases_of, zeros}
-use Rattle.asm_program.specs.Written.{PartWriting, part_written}
-use Rattle.asm_program.specs.Written.PartWriting.{Blank, Lines, Numbers}
+use Rattle.asm_program.specs.Written.{AllKnown, PartWriting, known_of, part_written}
+use Rattle.asm_program.specs.Written.PartWriting.{Blank, Lines, Numbers, Ticks}
 
 -- ---- the code's values
 
@@ -96,17 +96,19 @@ laid_in number laid (part ∷ parts) = laid_on (λ next. laid_in (suc number) ne
 pub record Sum : Type 0 where
   pub code : List CodeLine
   pub numbers : List Datum
+  pub ticks : List ℕ
 
 abbrev pub sum_of : Output → Sum
-sum_of output = record { code = output.code.items; numbers = output.data.items }
+sum_of output = record { code = output.code.items; numbers = output.data.items; ticks = output.ticks.items }
 
 abbrev pub nothing_written : Sum
-nothing_written = record { code = []; numbers = [] }
+nothing_written = record { code = []; numbers = []; ticks = [] }
 
 abbrev pub added : Sum → PartWriting → Sum
 added before Blank = before
 added before (Lines lines) = record before { code = before.code ++ lines }
 added before (Numbers numbers) = record before { numbers = before.numbers ++ numbers }
+added before (Ticks ticks) = record before { ticks = before.ticks ++ ticks }
 
 abbrev pub added_if : Sum → Result PartWriting Fault → Result Sum Fault
 added_if before (Err fault) = Err fault
@@ -116,24 +118,30 @@ abbrev pub sum_on : (later : Sum → Result Sum Fault) → Result Sum Fault → 
 sum_on later (Err fault) = Err fault
 sum_on later (Ok sum) = later sum
 
-abbrev pub sum_in : List Named → Sum → List Standing → Result Sum Fault
-sum_in symbols before [] = Ok before
-sum_in symbols before (one ∷ more) =
-    sum_on (λ next. sum_in symbols next more) (added_if before (part_written symbols one))
+abbrev pub sum_in : AllKnown → Sum → List Standing → Result Sum Fault
+sum_in known before [] = Ok before
+sum_in known before (one ∷ more) =
+    sum_on (λ next. sum_in known next more) (added_if before (part_written known one))
 
-abbrev pub with_before : List Datum → Result (List Datum) Fault → Result (List Datum) Fault
+abbrev pub with_before : {A : Type 0} → List A → Result (List A) Fault → Result (List A) Fault
 with_before before (Err fault) = Err fault
 with_before before (Ok more) = Ok (before ++ more)
 
 -- ---- both
 
 abbrev pub sum_after : Laid → Result Sum Fault
-sum_after laid = sum_in laid.reached.symbols nothing_written laid.standings
+sum_after laid = sum_in (known_of laid.reached.symbols laid.standings) nothing_written laid.standings
 
 abbrev pub imaged : Laid → Result Sum Fault → Result Image Fault
 imaged laid (Err fault) = Err fault
 imaged laid (Ok sum) =
-    Ok (record { code = sum.code; numbers = sum.numbers; symbols = laid.reached.symbols; ends = ends_of laid.reached })
+    Ok (record {
+      code = sum.code;
+      numbers = sum.numbers;
+      ticks = sum.ticks;
+      symbols = laid.reached.symbols;
+      ends = ends_of laid.reached;
+    })
 
 abbrev pub settled_by : (bases : Counters) → (sizes laid : Laid) → Result Image Fault
 settled_by bases sizes laid =
