@@ -39,10 +39,12 @@ def leads_to(room, name, distance, adding, told, is_forward):
 def by_gnu_as(room, adding):
     """Both parts of each distance by the words that GNU as and ld write."""
     source, made, words = (os.path.join(room, f"gnu.{it}") for it in ("s", "elf", "bin"))
-    cases = [f".equ s{at}, {(0x80000000 + 0x1000 * at + it) % 2**64:#x}\n.org {0x1000 * at:#x}\n1: auipc t0, %pcrel_hi(s{at})\n {adding.format('1b')}" for at, it in enumerate(DISTANCES)]
+    cases = [f".org {0x1000 * at:#x}\n1: auipc t0, %pcrel_hi(s{at})\n {adding.format('1b')}" for at in range(len(DISTANCES))]
+    # (GNU as takes no distance of a number that is so far away)
+    symbols = [f"-Wl,--defsym=s{at}={(0x80000000 + 0x1000 * at + it) % 2**64:#x}" for at, it in enumerate(DISTANCES)]
     write(source, "\n".join([".option norelax", ".globl _start", "_start:", *cases, ""]))
     flags = "-march=rv64im -mabi=lp64 -nostdlib -static -Wl,--build-id=none -Wl,-Ttext=0x80000000".split()
-    subprocess.run([COMPILER, *flags, "-o", made, source], check=True, capture_output=True, timeout=60)
+    subprocess.run([COMPILER, *flags, *symbols, "-o", made, source], check=True, capture_output=True, timeout=60)
     subprocess.run([COPIER, "-O", "binary", "-j", ".text", made, words], check=True, capture_output=True, timeout=60)
     with open(words, "rb") as file:
         code = file.read()
