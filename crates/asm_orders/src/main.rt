@@ -9,8 +9,6 @@ mod finding;
 mod judging;
 mod loader;
 mod loading;
-mod loose_records;
-mod loosely;
 mod marked;
 mod naming;
 mod reading;

@@ -3,11 +3,9 @@ pub mod Sections
 pub mod Directives
 pub mod Forms
 pub mod Moves
-pub mod Maps
+pub mod Layout
 pub mod Code
 pub mod Data
-pub mod Tables
-pub mod Layout
 pub mod Strings
 pub mod Written
 pub mod Assembles
