@@ -1,5 +1,7 @@
-"""Addresses in programs in assembly: the two parts of a distance, which GNU as writes alike, and calls as compilers write them."""
+"""Addresses in programs in assembly: the two parts of a distance, which GNU as writes alike; calls as compilers write them; and page tables
+by `.map`."""
 import os
+import random
 import re
 import shutil
 import subprocess
@@ -22,6 +24,46 @@ ADDING = (
 )  # fmt: skip
 # Ways to call `f`, which goes back to ra, or `g`, which goes back to t0.
 CALLS = ("call f@plt", "jal f@plt", "jal ra, f@plt", "call t0, g@plt", "jal t0, g@plt", "la ra, 1f\n tail f@plt\n1:", "la ra, 1f\n j f@plt\n1:")
+# A page that two maps share tables for, its neighbour, and the words that a loader stores for them: root table, tables behind `.bss`.
+MAPPED = """\
+        la s0, leaf
+        sd zero, 0(s0)
+        ebreak
+        .bss
+root:   .zero 4096
+        .map root, 0x1000, 0x80004000, rwad, leaf
+        .map root, 0x2000, 0x80006000, dra
+"""
+WORDS = ((0x80001000, 0x20000801), (0x80002000, 0x20000C01), (0x80003008, 0x200010C7), (0x80003010, 0x200018C3))
+# How many programs of maps are tried, and the first pages of theirs, by the width of the mode.
+MAPS, BASES = 40, {39: (0, 0x1FE000, 0x3FFFE000, 0x3FFFFFD000, 2**64 - 2**38, 2**64 - 0x3000), 48: (0, 0x1FE000, 0x3FFFE000, 0x7FFFFFE000, 2**47 - 0x3000, 2**64 - 2**47, 2**64 - 0x3000)}
+
+
+def maps_text(chance):
+    """Some pages by one mode, each with a word of its own, which a guest loads by their addresses."""
+    width = chance.choice((39, 48))
+    pages = sorted({chance.choice(BASES[width]) + 0x1000 * chance.randrange(3) for _ in range(8)})
+    chance.shuffle(pages)
+    lines = ["la t0, root", "srli t0, t0, 12", f"li t1, {8 + (width == 48)}", "slli t1, t1, 60", "or t0, t0, t1", "csrw satp, t0", "sfence.vma"]
+    for page in pages:
+        lines += [f"li s0, {page:#x}", "ld t1, 8(s0)"]
+    lines += ["ebreak"]
+    for at in range(len(pages)):
+        lines += [f".org {0x80008000 + 0x1000 * at:#x}", f"word{at}: .dword 0, {0x100 + at:#x}"]
+    lines += [".bss", "other: .zero 4", ".balign 4096", "root: .zero 4096"]
+    for at, page in enumerate(pages):
+        flags = "".join(chance.sample("rwxad", 5)) if chance.randrange(2) else "rad"
+        lines.append(f".map{'48' if width == 48 else ''} root, {page:#x}, word{at}, {flags}")
+    asked = [f"#! each 0 load {page + 8:#x} -> value {0x100 + at:#x}" for at, page in enumerate(pages)]
+    head = ".board 1, 64, 900, 0, 0x80000000, 0, 16, 48\n.org 0x80000000\n"
+    return "\n".join([*asked, "#! end quiet"]) + "\n" + head + lines_of("\n".join(lines)), len(pages) + 1
+
+
+def maps_are_walked(room, seed):
+    text, many = maps_text(random.Random(seed))
+    write(os.path.join(room, f"maps{seed}.s"), text)
+    lines, status = explored(room, f"maps{seed}.s")
+    must(f"{seed}: {status}, {lines}", status == 0 and len(points(lines)) == many)
 
 
 def leads_to(room, name, distance, adding, told, is_forward):
@@ -90,3 +132,16 @@ class AssemblyAddresses(Test):
         write(os.path.join(self.room, "calls.s"), text)
         lines, status = explored(self.room, "calls.s")
         must(f"{status}, {lines}", status == 0 and len(points(lines)) == 3)
+
+    def test_words_of_maps(self):
+        """A loader stores the words of the tables that no map above made, and a name is the address of a page's entry."""
+        write(os.path.join(self.room, "a.s"), f"#! never 0 store leaf 0\n{ONE}{MAPPED}")
+        lines, status = explored(self.room, "a.s")
+        stores = [re.match(r"    \d+ 0 store (0x[0-9a-f]+) (0x[0-9a-f]+) -> done    # (.*)", it) for it in lines]
+        stores = [(int(it[1], 16), int(it[2], 16), it[3]) for it in stores if it]
+        must(f"{status}, {lines}", status == 1 and [it[:2] for it in stores if it[2] == "the loader"] == [*WORDS])
+        must(f"{stores}", stores[-1] == (0x80003008, 0, "a.s:5: sd zero, 0(s0)"))
+
+    def test_maps_are_walked(self):
+        """Each page is found by the tables that the maps of a program made, by Sv39 and by Sv48."""
+        at_once(lambda seed: maps_are_walked(self.room, seed), range(MAPS))

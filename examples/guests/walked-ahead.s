@@ -10,18 +10,7 @@
         .equ    flags, 0x80006000       # two words, which hart 1 has at 0x2000: hart 1 has the tables; the page is another one
 
         .org    0x80000000
-boot:   li      t0, 0x80001000
-        li      t1, 0x20000801
-        sd      t1, 0(t0)               # the root table's first entry points to the table at 0x80002000
-        li      t0, 0x80002000
-        li      t1, 0x20000c01
-        sd      t1, 0(t0)               # whose first entry points to the table at 0x80003000
-        li      s2, 0x80003000
-        li      t1, 0x200010c7
-        sd      t1, 8(s2)               # whose second entry maps page 0x1000 to 0x80004000
-        li      t1, 0x200018c7
-        sd      t1, 16(s2)              # and the third one page 0x2000 to the flags
-        li      t0, 0x80005000
+boot:   li      t0, 0x80005000
         li      t1, 0x22
         sd      t1, 0(t0)               # what stands in the page that takes the place of the first one
         li      a7, HSM
@@ -33,8 +22,9 @@ boot:   li      t0, 0x80001000
         li      s0, flags
 1:      ld      t0, 0(s0)
         beqz    t0, 1b                  # until hart 1 has the tables
+        la      s1, leaf
         li      t1, 0x200014c7
-        sd      t1, 8(s2)               # page 0x1000 is 0x80005000 from now on
+        sd      t1, 0(s1)               # page 0x1000 is 0x80005000 from now on
         li      t0, 1
         sd      t0, 8(s0)
         ebreak
@@ -50,3 +40,8 @@ other:  li      t0, 0x8000500000080001
         li      s0, 0x1000
         ld      t1, 0(s0)
         ebreak
+
+        .bss                            # behind the text, so from 0x80001000 on
+root:   .zero   4096
+        .map    root, 0x1000, 0x80004000, rwad, leaf
+        .map    root, 0x2000, flags, rwad

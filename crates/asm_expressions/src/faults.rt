@@ -46,6 +46,10 @@ pub enum Wrong {
     Backwards,
     /// No section is called so: `.text`, `.rodata`, `.data` and `.bss` are.
     UnknownSection,
+    /// The letters of `.map` are no leaf: each of r, w, x, g, a and d at most once, with r, or with x and no w.
+    BadFlags,
+    /// The page is mapped twice under one root, or its root has maps of another mode.
+    MappedTwice,
     /// The size of a section depends on where it stands.
     Unsettled,
 }

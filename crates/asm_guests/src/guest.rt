@@ -1,11 +1,11 @@
 //! Guests between two operations.
 ghost use Rattle.std.specs.Prelude.{◌≡◌};
-ghost use Rattle.asm_guests.specs.Guests.{after_instruction, after_interrupt, after_operation, at_entry, guest_after, interrupted, is_sip, looping, next_by, reads_sip, settled, takes_interrupts, without_instruction};
+ghost use Rattle.asm_guests.specs.Guests.{at_end, guest_after, after_instruction, at_entry, next_by, settled, without_instruction};
 
 use crate::local::{Did, step};
 use crate::operations::op_by;
-use crate::replies::{Came, take, take_interrupt, take_trap};
-use crate::state::GuestState;
+use crate::replies::{Came, take, take_trap};
+use crate::state::{GuestState, RegisterContent, none_known};
 use board_terms::{Op, Reply};
 use rv64_instructions::Instruction;
 use sv39::Spaces;
@@ -31,6 +31,10 @@ pub trait Code {
     fn spaces(&self) -> Spaces
         ensures widths { result ≡ (listing self.now).spaces }
         ensures narrow { result.asid_len ≤ ASID_BITS };
+
+    /// Whether guests keep their registers at their ends.
+    fn keeps(&self) -> bool
+        ensures { result ≡ (listing self.now).keeps };
 }
 
 /// Why a guest can't go on, although it isn't through.
@@ -55,10 +59,8 @@ pub enum AsmGuest {
     Before(GuestState),
     /// Before the operation that clears sstatus.SIE for a trap.
     Trapping(GuestState),
-    /// In a loop to itself, with interrupts on.
-    Resting(GuestState),
-    /// Through.
-    Through,
+    /// Through. What its registers hold is kept if the program's guests keep them.
+    Through([RegisterContent; 32]),
     /// Lost, at this address.
     Astray(Lost, u64),
 }
@@ -72,76 +74,13 @@ pub fn at_entry<C: Code>(code: &C, addr: u64, hart: u64, opaque: u64) -> AsmGues
 {
     match code.instruction_at(addr) {
         Some(_) => settle(code, GuestState::entered(addr, hart, opaque), MOST_STEPS),
-        None => AsmGuest::Through,
+        None => AsmGuest::Through(none_known()),
     }
 }
 
-/// The guest behind an operation with this reply: it takes an interrupt, or did its next operation.
-pub fn guest_after<C: Code>(code: &C, guest: AsmGuest, op: Op, reply: Reply) -> AsmGuest
-    ensures { result ≡ guest_after (C.listing code.now) guest op reply }
-{
-    if takes_interrupts(code, &guest) && is_sip(op) {
-        after_interrupt(guest, reply)
-    } else {
-        after_operation(code, guest, reply)
-    }
-}
-
-/// Whether a guest takes an interrupt, once one comes. It takes none before an instruction that reads sip, since an interrupt
-/// begins with the same operation.
-pub fn takes_interrupts<C: Code>(code: &C, guest: &AsmGuest) -> bool
-    ensures { result ≡ takes_interrupts (C.listing code.now) guest.now }
-{
-    match guest {
-        AsmGuest::Before(state) => {
-            state.csrs.are_interrupts_on() && !reads_sip(code.instruction_at(state.pc))
-        }
-        AsmGuest::Resting(state) => state.csrs.are_interrupts_on(),
-        _ => false,
-    }
-}
-
-/// Whether an instruction, if there is one, reads sip.
-fn reads_sip(instruction: Option<Instruction>) -> bool
-    ensures { result ≡ reads_sip instruction }
-{
-    matches!(instruction, Some(Instruction::ReadSip { .. }))
-}
-
-/// Whether an operation reads sip.
-pub(crate) fn is_sip(op: Op) -> bool
-    ensures { result ≡ is_sip op }
-{
-    matches!(op, Op::ReadSip)
-}
-
-/// The guest that takes an interrupt, by the reply to a read of sip.
-fn after_interrupt(guest: AsmGuest, reply: Reply) -> AsmGuest
-    ensures { result ≡ after_interrupt guest reply }
-{
-    match reply {
-        Reply::Value(pending) => interrupted(guest, pending),
-        _ => guest,
-    }
-}
-
-/// The guest that takes an interrupt, where sip holds this.
-fn interrupted(guest: AsmGuest, pending: u64) -> AsmGuest
-    ensures { result ≡ interrupted pending guest }
-{
-    match guest {
-        AsmGuest::Before(state) | AsmGuest::Resting(state) => {
-            let mut state = state;
-            take_interrupt(&mut state, pending);
-            AsmGuest::Trapping(state)
-        }
-        _ => guest,
-    }
-}
-
-/// The guest behind its next operation, with this reply.
-fn after_operation<C: Code>(code: &C, guest: AsmGuest, reply: Reply) -> AsmGuest
-    ensures { result ≡ after_operation (C.listing code.now) guest reply }
+/// The guest behind an operation with this reply.
+pub fn guest_after<C: Code>(code: &C, guest: AsmGuest, reply: Reply) -> AsmGuest
+    ensures { result ≡ guest_after (C.listing code.now) guest reply }
 {
     match guest {
         AsmGuest::Before(state) => after_instruction(code, state, reply),
@@ -166,7 +105,7 @@ fn after_instruction<C: Code>(code: &C, from: GuestState, reply: Reply) -> AsmGu
     match take(&mut state, &instruction, reply, code.spaces()) {
         Came::GoesOn => settle(code, state, MOST_STEPS),
         Came::Traps => AsmGuest::Trapping(state),
-        Came::Leaves => AsmGuest::Through,
+        Came::Leaves => AsmGuest::Through(none_known()),
         Came::Strays(lost) => AsmGuest::Astray(lost, at),
     }
 }
@@ -194,37 +133,36 @@ fn settle<C: Code>(code: &C, from: GuestState, most: u32) -> AsmGuest
     let mut left = most;
     'steps: while left > 0 {
         let Some(instruction) = code.instruction_at(state.pc) else {
-            return without_instruction(code, state.pc);
+            return without_instruction(code, &state);
         };
         match step(&mut state, &instruction, code.spaces()) {
             Did::Stepped => {}
             Did::Waits => return AsmGuest::Before(state),
-            Did::Looped => return looping(state),
-            Did::Ended => return AsmGuest::Through,
+            Did::Ended => return at_end(code, &state),
         }
         left -= 1;
     }
     AsmGuest::Astray(Lost::Endless, state.pc)
 }
 
-/// The guest in a loop to itself.
-fn looping(state: GuestState) -> AsmGuest
-    ensures { result ≡ looping state }
+/// The guest in a state at whose address no instruction is.
+fn without_instruction<C: Code>(code: &C, state: &GuestState) -> AsmGuest
+    ensures { result ≡ without_instruction (C.listing code.now) state.now }
 {
-    if state.csrs.are_interrupts_on() {
-        AsmGuest::Resting(state)
+    if code.is_end(state.pc) {
+        at_end(code, state)
     } else {
-        AsmGuest::Through
+        AsmGuest::Astray(Lost::NoInstruction, state.pc)
     }
 }
 
-/// The guest at an address without an instruction.
-fn without_instruction<C: Code>(code: &C, pc: u64) -> AsmGuest
-    ensures { result ≡ without_instruction ((C.listing code.now).is_end pc) pc }
+/// The guest that is through in this state.
+fn at_end<C: Code>(code: &C, state: &GuestState) -> AsmGuest
+    ensures { result ≡ at_end (C.listing code.now) state.now }
 {
-    if code.is_end(pc) {
-        AsmGuest::Through
+    if code.keeps() {
+        AsmGuest::Through(state.registers)
     } else {
-        AsmGuest::Astray(Lost::NoInstruction, pc)
+        AsmGuest::Through(none_known())
     }
 }

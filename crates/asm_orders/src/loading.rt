@@ -164,6 +164,9 @@ fn statement_wrong(wrong: asm_expressions::Wrong) -> &'static str {
         Bad::DefinedTwice => "the symbol is defined twice",
         Bad::Backwards => ".org goes back, or the program is too large",
         Bad::UnknownSection => ".text, .rodata, .data and .bss are the sections",
+        Bad::BadFlags =>
+            "a leaf has r, or x without w, and of r, w, x, g, a and d each at most once",
+        Bad::MappedTwice => "the page is mapped twice, or its root by another mode",
         Bad::Unsettled => "the size of a section depends on where it stands",
     }
 }

@@ -309,7 +309,7 @@ module _ (parts : List Piece) (sizes : Laid) (has : laid_in 0 (nothing_laid zero
             ends = ends_of laid.reached;
           } in
           let e : made ≡ image = cc in
-          let wrote = sum_writes (known_of laid.reached.symbols laid.standings) nothing_written sum laid.standings adds in
+          let wrote = sum_writes (known_of laid.reached laid.standings) nothing_written sum laid.standings adds in
           record {
             standings = laid.standings;
             to = laid.reached;
@@ -328,9 +328,9 @@ module _ (parts : List Piece) (sizes : Laid) (has : laid_in 0 (nothing_laid zero
       missed_by fault settled (Ok sum) adds same = absurd cc
       missed_by fault settled (Err other) adds same =
           let e : other ≡ fault = cc in
-          let known : AllKnown = known_of laid.reached.symbols laid.standings in
+          let known : AllKnown = known_of laid.reached laid.standings in
           let m = sum_misses known nothing_written laid.standings fault (adds ∙ ap Err e) in
-          let same_known : known ≡ known_of laid.reached.symbols (m.0 ++ m.1 ∷ m.2) = ap (known_of laid.reached.symbols) (sym m.4) in
+          let same_known : known ≡ known_of laid.reached (m.0 ++ m.1 ∷ m.2) = ap (known_of laid.reached) (sym m.4) in
           inr (inr (inr (inr (record {
             before = m.0;
             one = m.1;
@@ -438,7 +438,7 @@ back_sizes parts sizes have bases follow =
 back_laid : (parts : List Piece) (sizes bases : Counters) (have : HaveSizes parts sizes) → bases_of sizes ≡ Some bases
     → (standings : List Standing) (to : PartsReach) → Stand bases parts standings to → (settled : Bool)
     → are_settled bases sizes to.counters ≡ settled
-    → program_in parts ≡ (if settled then imaged (record { reached = to; standings = standings }) (sum_in (known_of to.symbols standings) nothing_written standings) else wrong_at Unsettled 0)
+    → program_in parts ≡ (if settled then imaged (record { reached = to; standings = standings }) (sum_in (known_of to standings) nothing_written standings) else wrong_at Unsettled 0)
 back_laid parts sizes bases have follow standings to stand settled same =
     let first : Laid = record { reached = have.to; standings = have.standings } in
     let laid : Laid = record { reached = to; standings = standings } in
@@ -452,7 +452,7 @@ of_say parts image say =
     let laid : Laid = record { reached = say.to; standings = say.standings } in
     let s = say.settle in
     back_laid parts s.sizes s.bases s.have_sizes s.follow say.standings say.to s.stand true s.same
-    ∙ ap (imaged laid) (writes_sum (known_of say.to.symbols say.standings) nothing_written say.standings say.writings say.write)
+    ∙ ap (imaged laid) (writes_sum (known_of say.to say.standings) nothing_written say.standings say.writings say.write)
     ∙ (λ i. image_ok (sym say.code i) (sym say.numbers i) (sym say.ticks i) (sym say.symbols i) (sym say.ends i))
 
 of_have : (parts : List Piece) (fault : Fault) → HaveFault parts fault → program_in parts ≡ Err fault
@@ -470,7 +470,7 @@ of_have parts fault (inr (inr (inr (inr cant)))) =
     let laid : Laid = record { reached = cant.to; standings = standings } in
     let s = cant.settle in
     back_laid parts s.sizes s.bases s.have_sizes s.follow standings cant.to s.stand true s.same
-    ∙ ap (imaged laid) (misses_sum (known_of cant.to.symbols standings) nothing_written cant.before cant.one cant.behind cant.writings fault cant.write cant.fails)
+    ∙ ap (imaged laid) (misses_sum (known_of cant.to standings) nothing_written cant.before cant.one cant.behind cant.writings fault cant.write cant.fails)
 
 -- ---- texts
 

@@ -81,7 +81,7 @@ pub record SayProgram (parts : List Piece) (image : Image) : Type 0 where
   pub settle : Settle parts standings to
   pub symbols : image.symbols ≡ to.symbols
   pub ends : image.ends ≡ ends_of to
-  pub write : WriteAll (known_of to.symbols standings) standings writings
+  pub write : WriteAll (known_of to standings) standings writings
   pub code : image.code ≡ flat_map lines_in writings
   pub numbers : image.numbers ≡ flat_map data_in writings
   pub ticks : image.ticks ≡ flat_map written_ticks writings
@@ -133,8 +133,8 @@ pub record CantWrite (parts : List Piece) (fault : Fault) : Type 0 where
   pub to : PartsReach
   pub writings : List PartWriting
   pub settle : Settle parts (before ++ one ∷ behind) to
-  pub write : WriteAll (known_of to.symbols (before ++ one ∷ behind)) before writings
-  pub fails : part_written (known_of to.symbols (before ++ one ∷ behind)) one ≡ Err fault
+  pub write : WriteAll (known_of to (before ++ one ∷ behind)) before writings
+  pub fails : part_written (known_of to (before ++ one ∷ behind)) one ≡ Err fault
 
 -- The first fault of parts: of one that can't stand where each section before_parts at 0; or of the sections together; or of one that
 -- can't stand behind the other sections; or if all can, of one that can't be part_written.

@@ -13,19 +13,25 @@ use Rattle.asm_tokens.specs.declared.marks.Mark.TheVariants.{Comma}
 use Rattle.asm_tokens.specs.Readings.{TokenSpot}
 use Rattle.asm_tokens.specs.Tokens.{Lexeme}
 use Rattle.asm_tokens.specs.Tokens.Lexeme.{Mark, Word}
-use Rattle.asm_program.specs.declared.directives.Directive.TheVariants.{Common, Enter, Equ, Named as NamedSection, Org, Passed}
+use Rattle.asm_program.specs.declared.directives.Directive.TheVariants.{Common, Enter, Equ, Map, Named as NamedSection, Org, Passed}
 use Rattle.asm_program.specs.declared.sections.Counters.{Counters}
 use Rattle.asm_program.specs.declared.sections.Section.{Section}
 use Rattle.asm_program.specs.declared.sections.Section.TheVariants.{Absolute, Bss}
+use Rattle.asm_program.specs.declared.tables.Entry.{Entry}
+use Rattle.asm_program.specs.declared.tables.Mapping.{Mapping}
 use Rattle.asm_program.specs.Forms.{PartForm, part_form}
 use Rattle.asm_program.specs.Forms.PartForm.{Nothing, Labels, Directs, Instructs}
+use Rattle.asm_program.specs.Maps.{MapEnding, map_said}
 use Rattle.asm_program.specs.Moves.{behind_directive, behind_instruction, behind_org, moved_by, aligned_to}
 use Rattle.asm_program.specs.Parts.{Piece}
 use Rattle.asm_program.specs.Sections.{counter_of, section_of, with_counter}
+use Rattle.asm_program.specs.Tables.{MapWalk, mapped, mapping_in, said_or}
+use Rattle.sv39.specs.declared.paging.Paging.{Paging}
 
 -- ---- what a part changes
 
--- nothing; where its section goes on; which section goes on; where `.org` goes on; a symbol; or a symbol and where `.bss` goes on
+-- nothing; where its section goes on; which section goes on; where `.org` goes on; a symbol; a symbol and where `.bss` goes on; or
+-- page tables, and a symbol for the last entry
 pub data PartChange : Type 0 where
   Stays : PartChange
   Moves : ℕ → PartChange
@@ -33,6 +39,7 @@ pub data PartChange : Type 0 where
   Goes : ℕ → PartChange
   Defines : Named → PartChange
   Reserves : Named → ℕ → PartChange
+  Maps : Mapping → Option Named → PartChange
 
 -- a local label's name is digits, and it can be defined again
 abbrev pub is_digits : List ℕ → Bool
@@ -107,6 +114,23 @@ reserved scope bss left (first ∷ second ∷ sizes) =
     reserved_by scope bss left first.lexeme second.lexeme first.left sizes
 reserved scope bss left operands = wrong_at BadOperands left
 
+-- ---- page tables
+
+-- the name of a map's last entry, whose address isn't known yet
+abbrev pub entry_name : Context → MapEnding → Option (List ℕ) → Result (Option Named) Fault
+entry_name scope end None = Ok None
+entry_name scope end (Some name) = do
+  symbol ← symbol_of scope name end.left 0
+  Ok (Some symbol)
+
+-- `.map ROOT, PAGE, TO, FLAGS, NAME`
+abbrev pub mapping : Context → Paging → (left : ℕ) → List TokenSpot → Result PartChange Fault
+mapping scope paging left operands = do
+  said ← said_or left (map_said operands)
+  map ← mapping_in scope paging said
+  symbol ← entry_name scope said.end said.end.name
+  Ok (Maps map symbol)
+
 -- ---- all parts
 
 abbrev pub moving : Result ℕ Fault → Result PartChange Fault
@@ -129,6 +153,7 @@ part_changes_by scope counters (Directs Org operands) left = going (behind_org s
 part_changes_by scope counters (Directs (Enter section) operands) left = Ok (Enters section)
 part_changes_by scope counters (Directs NamedSection operands) left = section_named left operands
 part_changes_by scope counters (Directs Common operands) left = reserved scope counters.bss left operands
+part_changes_by scope counters (Directs (Map paging) operands) left = mapping scope paging left operands
 part_changes_by scope counters (Directs Passed operands) left = Ok Stays
 part_changes_by scope counters (Directs directive operands) left = moving (behind_directive scope directive left operands)
 part_changes_by scope counters (Instructs form operands) left = moving (behind_instruction scope form left operands)
@@ -143,25 +168,37 @@ change_in scope counters part = change_by scope counters (part_form part)
 
 -- ---- where parts stand
 
--- how far parts reach: the section that goes on, where each goes on, the symbols that the parts define, and the addresses that
--- `.org` left
+-- how far parts reach: the section that goes on, where each goes on, the symbols that the parts define, the addresses that `.org`
+-- left, and the entries of page tables
 pub record PartsReach : Type 0 where
   pub section : Section
   pub counters : Counters
   pub symbols : List Named
   pub left : List ℕ
+  pub entries : List Entry
 
 abbrev pub next_address : PartsReach → ℕ
 next_address from = counter_of from.counters from.section
 
 -- before the first part, where sections begin here
 abbrev pub before_parts : Counters → PartsReach
-before_parts bases = record { section = Absolute; counters = bases; symbols = []; left = [] }
+before_parts bases = record { section = Absolute; counters = bases; symbols = []; left = []; entries = [] }
 
 -- what is known at a part, by what stands above it
 abbrev pub seen_above : (number : ℕ) → PartsReach → Piece → Context
 seen_above number from part =
     record { symbols = from.symbols; highs = []; statement = number; here = next_address from; end = part.end }
+
+abbrev pub with_entry_name : List Named → (at : ℕ) → Option Named → List Named
+with_entry_name symbols at None = symbols
+with_entry_name symbols at (Some symbol) = symbols ++ record symbol { value = at } ∷ []
+
+abbrev pub reached_by_map : PartsReach → MapWalk → Option Named → PartsReach
+reached_by_map from walk symbol = record from {
+  counters = record from.counters { tables = walk.next };
+  symbols = with_entry_name from.symbols walk.at symbol;
+  entries = walk.entries;
+}
 
 abbrev pub reached_with : PartsReach → PartChange → PartsReach
 reached_with from Stays = from
@@ -175,6 +212,7 @@ reached_with from (Goes to) = record from {
 reached_with from (Defines symbol) = record from { symbols = from.symbols ++ symbol ∷ [] }
 reached_with from (Reserves symbol next) =
     record from { counters = with_counter from.counters Bss next; symbols = from.symbols ++ symbol ∷ [] }
+reached_with from (Maps map symbol) = reached_by_map from (mapped map from.counters.tables from.entries) symbol
 
 abbrev pub reached_by : PartsReach → Result PartChange Fault → Result PartsReach Fault
 reached_by from (Err fault) = Err fault

@@ -3,9 +3,11 @@ pub mod Sections
 pub mod Directives
 pub mod Forms
 pub mod Moves
-pub mod Layout
+pub mod Maps
 pub mod Code
 pub mod Data
+pub mod Tables
+pub mod Layout
 pub mod Strings
 pub mod Written
 pub mod Assembles

@@ -44,7 +44,7 @@ with_counter counters Bss next = record counters { bss = next }
 
 -- each section at 0
 abbrev pub zeros : Counters
-zeros = record { absolute = 0; text = 0; rodata = 0; variables = 0; bss = 0 }
+zeros = record { absolute = 0; text = 0; rodata = 0; variables = 0; bss = 0; tables = 0 }
 
 -- ---- where they begin
 
@@ -57,14 +57,26 @@ infixl 10 ◌>>=◌
 abbrev pub ◌>>=◌ : {A B : Type 0} → Option A → (A → Option B) → Option B
 o >>= f = option_and_then f o
 
--- Where sections of these sizes begin: each on the first page behind the one before it, in this order.
+-- the first page behind so many bytes, around the address space
+abbrev pub page_around : (at size : ℕ) → ℕ
+page_around at size = ((at + size) % 2 ^ 64 + 4095) % 2 ^ 64 / 4096 * 4096
+
+-- Where sections of these sizes begin: each on the first page behind the one before it, in this order; and where page tables begin,
+-- behind all others.
 abbrev pub bases_of : (sizes : Counters) → Option Counters
 bases_of sizes = do
   text ← page_behind sizes.absolute 0
   rodata ← page_behind text sizes.text
   variables ← page_behind rodata sizes.rodata
   bss ← page_behind variables sizes.variables
-  Some (record { absolute = 0; text = text; rodata = rodata; variables = variables; bss = bss })
+  Some (record {
+    absolute = 0;
+    text = text;
+    rodata = rodata;
+    variables = variables;
+    bss = bss;
+    tables = page_around bss sizes.bss;
+  })
 
 abbrev pub length_of : (from to : ℕ) → ℕ
 length_of from to = (to + (2 ^ 64 - from)) % 2 ^ 64

@@ -140,9 +140,15 @@ fn written<'a>(alloc: Global, layout: Layout<'_, 'a>) -> Result<Assembly<'a>, St
         counters,
         symbols,
         left,
+        entries,
         statements,
     } = layout;
-    let Output { code, data, ticks } = write_all(alloc, symbols.as_slice(), statements.as_slice())?;
+    let Output { code, data, ticks } = write_all(
+        alloc,
+        symbols.as_slice(),
+        entries.as_slice(),
+        statements.as_slice(),
+    )?;
     let mut ends = left;
     add_counters(&mut ends, &counters)?;
     Ok(Assembly {

@@ -3,19 +3,22 @@ ghost use Rattle.std.specs.Prelude.{◌≡◌};
 ghost use Rattle.asm_expressions.specs.Symbols.{context_of};
 ghost use Rattle.asm_program.specs.Inside.Passes.{change_of, named_result};
 ghost use Rattle.asm_program.specs.Forms.PartForm.{Directs};
-ghost use Rattle.asm_program.specs.Layout.{alignment_of, change_in, part_changes_by, defined, equal_to, is_digits, reserved, reserved_name, section_named, symbol_of};
+ghost use Rattle.asm_program.specs.Layout.{alignment_of, change_in, part_changes_by, defined, equal_to, is_digits, mapping, reserved, reserved_name, section_named, symbol_of};
 ghost use Rattle.asm_program.specs.Parts.{piece_of};
 ghost use Rattle.asm_tokens.specs.Readings.{spots_of};
 ghost use Rattle.std.specs.Int.{is_in_range};
 
 use crate::directives::Directive;
 use crate::forms::{Form, fault, read_form};
+use crate::maps::map_text;
 use crate::moves::{aligned_to, behind_directive, behind_instruction, behind_org, moved_by};
 use crate::parts::Part;
 use crate::sections::{Counters, Section, section_of};
+use crate::tables::{Mapping, mapping_in};
 use asm_expressions::{Fault, Scope, Symbol, Wrong, first_named, value_of};
 use asm_instructions::first_operand;
 use asm_tokens::{Mark, Placed, Token};
+use sv39::Paging;
 
 /// What a part changes.
 #[derive(Clone, Copy)]
@@ -32,6 +35,8 @@ pub(crate) enum Change<'a> {
     Defines(Symbol<'a>),
     /// It defines a symbol, and `.bss` goes on at this address.
     Reserves(Symbol<'a>, u64),
+    /// It maps a page, and this symbol is the address of the page's entry.
+    Maps(Mapping, Option<Symbol<'a>>),
 }
 
 /// What a part changes.
@@ -75,6 +80,7 @@ fn directed<'a>(
         Directive::Enter(section) => Ok(Change::Enters(section)),
         Directive::Named => section_named(left, operands),
         Directive::Common => reserved(scope, counters.bss, left, operands),
+        Directive::Map(paging) => mapping(scope, paging, left, operands),
         Directive::Passed => Ok(Change::Stays),
         _ => {
             let next = behind_directive(scope, directive, left, operands)?;
@@ -148,6 +154,28 @@ fn alignment_of(scope: &Scope<'_, '_>, sizes: &[Placed<'_>]) -> Result<u64, Faul
     match first_operand(sizes).1 {
         Some(behind) => value_of(scope, behind),
         None => Ok(8),
+    }
+}
+
+/// `.map ROOT, PAGE, TO, FLAGS, NAME`
+fn mapping<'a>(
+    scope: &Scope<'_, '_>,
+    paging: Paging,
+    left: usize,
+    operands: &[Placed<'a>],
+) -> Result<Change<'a>, Fault>
+    ensures { change_of result ≡ mapping (context_of scope.now) paging left (spots_of operands.now) }
+{
+    let Some(text) = map_text(operands) else {
+        return Err(fault(Wrong::BadOperands, left));
+    };
+    let map = mapping_in(scope, paging, &text)?;
+    match text.end.name {
+        Some(name) => {
+            let symbol = symbol_of(scope, name, text.end.left, 0)?;
+            Ok(Change::Maps(map, Some(symbol)))
+        }
+        None => Ok(Change::Maps(map, None)),
     }
 }
 

@@ -3,6 +3,7 @@ ghost use Rattle.std.specs.Prelude.{◌≡◌, map};
 ghost use Rattle.asm_program.specs.Directives.{directive_in, directive_of, listed_directive};
 
 use crate::sections::Section;
+use sv39::Paging;
 
 /// A directive.
 #[derive(Clone, Copy, PartialEq, Eq)]
@@ -15,6 +16,8 @@ pub(crate) enum Directive {
     Data(u64),
     /// `.tick`: ticks of the clock.
     Tick,
+    /// `.map` and `.map48`: a page, and the tables that lead to it.
+    Map(Paging),
     /// `.ascii`: the bytes of a string; by `.asciz` and `.string` with a 0 behind them.
     Ascii(bool),
     /// `.zero`, `.space` and `.skip`: so many bytes that are 0.
@@ -64,7 +67,7 @@ fn directive_in(rows: &[(&[u8], Directive)], word: &[u8]) -> Option<Directive>
 }
 
 /// All directives by their names. The last ones tell linkers and debuggers something.
-pub(crate) const DIRECTIVES: [(&[u8], Directive); 42] = [
+pub(crate) const DIRECTIVES: [(&[u8], Directive); 44] = [
     (b".board", Directive::Data(0)),
     (b".byte", Directive::Data(1)),
     (b".half", Directive::Data(2)),
@@ -77,6 +80,8 @@ pub(crate) const DIRECTIVES: [(&[u8], Directive); 42] = [
     (b".quad", Directive::Data(8)),
     (b".8byte", Directive::Data(8)),
     (b".tick", Directive::Tick),
+    (b".map", Directive::Map(Paging::Sv39)),
+    (b".map48", Directive::Map(Paging::Sv48)),
     (b".ascii", Directive::Ascii(false)),
     (b".asciz", Directive::Ascii(true)),
     (b".string", Directive::Ascii(true)),

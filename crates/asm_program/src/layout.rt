@@ -1,13 +1,16 @@
 //! Where each part of a program stands, and its symbols.
-ghost use Rattle.std.specs.Prelude.{◌≡◌, IfErr, IfOk, OnOk, map};
+ghost use Rattle.std.specs.Prelude.{◌≡◌, IfErr, IfOk, OnOk, map, option_map};
 ghost use Rattle.asm_program.specs.Inside.Passes.{StopsAt, change_of, changing_of, laid_in, laid_more, laid_of, nothing_laid, reached_of};
-ghost use Rattle.asm_program.specs.Layout.{next_address, reached_by, reached_with, reach_more};
+ghost use Rattle.asm_expressions.specs.Symbols.{named_of};
+ghost use Rattle.asm_program.specs.Layout.{next_address, reached_by, reached_by_map, reached_with, reach_more};
+ghost use Rattle.asm_program.specs.Tables.{mapped};
 ghost use Rattle.asm_program.specs.Parts.{piece_of};
 
 use crate::changes::{Change, change_by};
 use crate::parts::Part;
 use crate::sections::{Counters, Section};
 use crate::stop::Stop;
+use crate::tables::{Entry, Mapping, add_map};
 use asm_expressions::{Fault, Scope, Symbol};
 use std::alloc::{AllocError, Global};
 
@@ -33,6 +36,8 @@ pub(crate) struct Layout<'t, 'a> {
     pub symbols: Vec<Symbol<'a>>,
     /// The addresses that `.org` left.
     pub left: Vec<u64>,
+    /// The entries of page tables.
+    pub entries: Vec<Entry>,
     /// The parts.
     pub statements: Vec<Statement<'t, 'a>>,
 }
@@ -51,6 +56,7 @@ pub(crate) fn lay_out<'t, 'a>(
         counters: bases,
         symbols: Vec::new(alloc),
         left: Vec::new(alloc),
+        entries: Vec::new(alloc),
         statements: Vec::new(alloc),
     };
     for (i, part) in parts.iter().enumerate() {
@@ -123,6 +129,25 @@ impl<'t, 'a> Layout<'t, 'a> {
                 self.symbols.push(symbol)?;
                 Ok(())
             }
+            Change::Maps(map, symbol) => self.map(&map, symbol),
         }
+    }
+
+    /// Adds the entries of a map, and the symbol that is the address of the last one.
+    #[tactic(auto, using(crate::proofs::More::named_more))]
+    fn map(&mut self, map: &Mapping, symbol: Option<Symbol<'a>>) -> Result<(), AllocError>
+        ensures reached { OnOk result (reached_of self.new ≡ reached_by_map (reached_of self.old) (mapped map.now self.old.counters.tables self.old.entries.items) (option_map named_of symbol.entry)) }
+        ensures kept { self.new.statements.items ≡ self.old.statements.items }
+    {
+        let at = add_map(&mut self.entries, &mut self.counters.tables, map)?;
+        let Some(symbol) = symbol else {
+            return Ok(());
+        };
+        self.symbols.push(Symbol {
+            name: symbol.name,
+            value: at,
+            statement: symbol.statement,
+        })?;
+        Ok(())
     }
 }

@@ -11,12 +11,14 @@ mod forms;
 mod highs;
 mod laws;
 mod layout;
+mod maps;
 mod moves;
 mod output;
 mod parts;
 mod sections;
 mod stop;
 mod strings;
+mod tables;
 
 pub use assemble::{Assembly, AssemblyError, ProgramFault, ProgramWrong, assemble_text};
 pub use code::CodeLine;

@@ -1,9 +1,9 @@
 //! What the parts of a program write.
-ghost use Rattle.std.specs.Prelude.{◌≡◌, IfErr, IfOk, OnOk, map};
+ghost use Rattle.std.specs.Prelude.{◌≡◌, [], IfErr, IfOk, OnOk, filter_map, map};
 ghost use Rattle.asm_expressions.specs.Symbols.{context_of, named_of};
 ghost use Rattle.asm_program.specs.Forms.PartForm.{Directs, Instructs};
 ghost use Rattle.asm_program.specs.Inside.Passes.{StopsAt, added_if, nothing_written, standing_of, sum_in, sum_of};
-ghost use Rattle.asm_program.specs.Written.{form_written, known_of, part_written};
+ghost use Rattle.asm_program.specs.Written.{form_written, high_of, part_written};
 ghost use Rattle.asm_tokens.specs.Readings.{spots_of};
 
 use crate::code::{CodeLine, add_lines};
@@ -14,6 +14,7 @@ use crate::highs::all_highs;
 use crate::layout::Statement;
 use crate::stop::Stop;
 use crate::strings::add_string;
+use crate::tables::{Entry, add_map_words};
 use asm_expressions::{PcrelHigh, Scope, Symbol};
 use asm_instructions::instructions_of;
 use asm_mnemonics::OperandForm;
@@ -35,13 +36,14 @@ pub(crate) struct Output {
 pub(crate) fn write_all(
     alloc: Global,
     symbols: &[Symbol<'_>],
+    entries: &[Entry],
     statements: &[Statement<'_, '_>],
 ) -> Result<Output, Stop>
-    ensures sum { IfOk result (λ output. sum_in (known_of (map named_of symbols.now) (map standing_of statements.now)) nothing_written (map standing_of statements.now) ≡ Ok (sum_of output)) }
-    ensures fault { IfErr result (StopsAt (sum_in (known_of (map named_of symbols.now) (map standing_of statements.now)) nothing_written (map standing_of statements.now))) }
+    ensures sum { IfOk result (λ output. sum_in (record { symbols = map named_of symbols.now; highs = filter_map (high_of (map named_of symbols.now)) (map standing_of statements.now); entries = entries.now }) nothing_written (map standing_of statements.now) ≡ Ok (sum_of output)) }
+    ensures fault { IfErr result (StopsAt (sum_in (record { symbols = map named_of symbols.now; highs = filter_map (high_of (map named_of symbols.now)) (map standing_of statements.now); entries = entries.now }) nothing_written (map standing_of statements.now))) }
 {
     let highs = all_highs(alloc, symbols, statements)?;
-    write_each(alloc, symbols, highs.as_slice(), statements)
+    write_each(alloc, symbols, highs.as_slice(), entries, statements)
 }
 
 /// What each part writes where so much is known.
@@ -49,10 +51,11 @@ fn write_each(
     alloc: Global,
     symbols: &[Symbol<'_>],
     highs: &[PcrelHigh],
+    entries: &[Entry],
     statements: &[Statement<'_, '_>],
 ) -> Result<Output, Stop>
-    ensures sum { IfOk result (λ output. sum_in (record { symbols = map named_of symbols.now; highs = highs.now }) nothing_written (map standing_of statements.now) ≡ Ok (sum_of output)) }
-    ensures fault { IfErr result (StopsAt (sum_in (record { symbols = map named_of symbols.now; highs = highs.now }) nothing_written (map standing_of statements.now))) }
+    ensures sum { IfOk result (λ output. sum_in (record { symbols = map named_of symbols.now; highs = highs.now; entries = entries.now }) nothing_written (map standing_of statements.now) ≡ Ok (sum_of output)) }
+    ensures fault { IfErr result (StopsAt (sum_in (record { symbols = map named_of symbols.now; highs = highs.now; entries = entries.now }) nothing_written (map standing_of statements.now))) }
 {
     let mut output = Output {
         code: Vec::new(alloc),
@@ -60,7 +63,7 @@ fn write_each(
         ticks: Vec::new(alloc),
     };
     for statement in statements {
-        output.add(symbols, highs, statement)?;
+        output.add(symbols, highs, entries, statement)?;
     }
     Ok(output)
 }
@@ -72,10 +75,11 @@ impl Output {
         &mut self,
         symbols: &[Symbol<'_>],
         highs: &[PcrelHigh],
+        entries: &[Entry],
         statement: &Statement<'_, '_>,
     ) -> Result<(), Stop>
-        ensures added { OnOk result (added_if (sum_of self.old) (part_written (record { symbols = map named_of symbols.now; highs = highs.now }) (standing_of statement.now)) ≡ Ok (sum_of self.new)) }
-        ensures fault { IfErr result (StopsAt (added_if (sum_of self.old) (part_written (record { symbols = map named_of symbols.now; highs = highs.now }) (standing_of statement.now)))) }
+        ensures added { OnOk result (added_if (sum_of self.old) (part_written (record { symbols = map named_of symbols.now; highs = highs.now; entries = entries.now }) (standing_of statement.now)) ≡ Ok (sum_of self.new)) }
+        ensures fault { IfErr result (StopsAt (added_if (sum_of self.old) (part_written (record { symbols = map named_of symbols.now; highs = highs.now; entries = entries.now }) (standing_of statement.now)))) }
     {
         let scope = Scope {
             symbols,
@@ -89,7 +93,7 @@ impl Output {
             Form::Nothing => Ok(()),
             Form::Label(_) => Ok(()),
             Form::Directive(directive, operands) => {
-                self.add_data(&scope, directive, left, operands)
+                self.add_data(entries, &scope, directive, left, operands)
             }
             Form::Instruction(form, operands) => self.add_code(&scope, form, left, operands),
         }
@@ -103,8 +107,8 @@ impl Output {
         left: usize,
         operands: &[Placed<'_>],
     ) -> Result<(), Stop>
-        ensures added { OnOk result (added_if (sum_of self.old) (form_written (context_of scope.now) (Instructs form (spots_of operands.now)) left) ≡ Ok (sum_of self.new)) }
-        ensures fault { IfErr result (StopsAt (added_if (sum_of self.old) (form_written (context_of scope.now) (Instructs form (spots_of operands.now)) left))) }
+        ensures added { OnOk result (added_if (sum_of self.old) (form_written [] (context_of scope.now) (Instructs form (spots_of operands.now)) left) ≡ Ok (sum_of self.new)) }
+        ensures fault { IfErr result (StopsAt (added_if (sum_of self.old) (form_written [] (context_of scope.now) (Instructs form (spots_of operands.now)) left))) }
     {
         match instructions_of(scope, form, left, operands) {
             Ok(made) => Ok(add_lines(&mut self.code, made, scope.here, left)?),
@@ -116,19 +120,23 @@ impl Output {
     #[tactic(auto, using(crate::proofs::More::numbers_added, crate::proofs::More::ticks_added, crate::proofs::Stops::stops_numbers, crate::proofs::Stops::stops_ticks))]
     fn add_data(
         &mut self,
+        entries: &[Entry],
         scope: &Scope<'_, '_>,
         directive: Directive,
         left: usize,
         operands: &[Placed<'_>],
     ) -> Result<(), Stop>
-        ensures added { OnOk result (added_if (sum_of self.old) (form_written (context_of scope.now) (Directs directive (spots_of operands.now)) left) ≡ Ok (sum_of self.new)) }
-        ensures fault { IfErr result (StopsAt (added_if (sum_of self.old) (form_written (context_of scope.now) (Directs directive (spots_of operands.now)) left))) }
+        ensures added { OnOk result (added_if (sum_of self.old) (form_written entries.now (context_of scope.now) (Directs directive (spots_of operands.now)) left) ≡ Ok (sum_of self.new)) }
+        ensures fault { IfErr result (StopsAt (added_if (sum_of self.old) (form_written entries.now (context_of scope.now) (Directs directive (spots_of operands.now)) left))) }
     {
         match directive {
             Directive::Data(size) => add_numbers(&mut self.data, scope, size, left, operands),
             Directive::Tick => add_ticks(&mut self.ticks, scope, operands),
             Directive::Ascii(is_ended) => {
                 add_string(&mut self.data, scope.here, is_ended, left, operands)
+            }
+            Directive::Map(paging) => {
+                add_map_words(&mut self.data, entries, scope, paging, left, operands)
             }
             _ => Ok(()),
         }

@@ -1,6 +1,6 @@
 //! The sections of a program, and where they go on.
 ghost use Rattle.std.specs.Prelude.{◌≡◌, map};
-ghost use Rattle.asm_program.specs.Sections.{are_settled, bases_of, belongs_to, counter_of, is_dotted_rest, page_behind, section_in, section_of, with_counter};
+ghost use Rattle.asm_program.specs.Sections.{are_settled, bases_of, belongs_to, counter_of, is_dotted_rest, page_around, page_behind, section_in, section_of, with_counter};
 
 /// A section of a program.
 #[derive(Clone, Copy, PartialEq, Eq)]
@@ -30,12 +30,14 @@ pub(crate) struct Counters {
     pub variables: u64,
     /// That of `.bss`.
     pub bss: u64,
+    /// That of the next page table.
+    pub tables: u64,
 }
 
 impl Counters {
     /// Where each section begins at 0.
     pub(crate) fn zero() -> Counters
-        ensures { result ≡ record { absolute = 0; text = 0; rodata = 0; variables = 0; bss = 0 } }
+        ensures { result ≡ record { absolute = 0; text = 0; rodata = 0; variables = 0; bss = 0; tables = 0 } }
     {
         Counters {
             absolute: 0,
@@ -43,6 +45,7 @@ impl Counters {
             rodata: 0,
             variables: 0,
             bss: 0,
+            tables: 0,
         }
     }
 
@@ -86,6 +89,7 @@ impl Counters {
             rodata,
             variables,
             bss,
+            tables: page_around(bss, self.bss),
         })
     }
 
@@ -107,6 +111,13 @@ fn page_behind(at: u64, size: u64) -> Option<u64>
 {
     let last = at.checked_add(size)?.checked_add(4095)?;
     Some(last / 4096 * 4096)
+}
+
+/// The first page behind so many bytes, around the address space.
+fn page_around(at: u64, size: u64) -> u64
+    ensures { result ≡ page_around at size }
+{
+    at.wrapping_add(size).wrapping_add(4095) / 4096 * 4096
 }
 
 /// The section of this name; one with a longer name, as `.text.startup`, belongs to it.

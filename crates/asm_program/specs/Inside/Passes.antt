@@ -1,5 +1,5 @@
 -- The assembler's two passes over the parts: where each stands, and then what each writes. No promise rests on these definitions.
-use Rattle.std.specs.Prelude.{◌≡◌, ℕ, suc, if◌then◌else◌, List, [], ◌∷◌, ◌++◌, map, Option, Some, None, Result, Ok, Err}
+use Rattle.std.specs.Prelude.{◌≡◌, ℕ, suc, if◌then◌else◌, List, [], ◌∷◌, ◌++◌, map, Option, Some, None, option_map, Result, Ok, Err}
 use Rattle.asm_expressions.specs.declared.faults.Fault.{Fault}
 use Rattle.asm_expressions.specs.declared.faults.Wrong.TheVariants.{Backwards, Unsettled}
 use Rattle.asm_expressions.specs.declared.symbols.Symbol.{Symbol}
@@ -24,7 +24,7 @@ use Rattle.asm_program.specs.declared.stop.Stop.{Stop}
 use Rattle.asm_program.specs.declared.stop.Stop.TheVariants as stops
 use Rattle.asm_program.specs.Assembles.{Image}
 use Rattle.asm_program.specs.Layout.{PartChange, PartsReach, Standing, before_parts, ends_of, standing, reach_more}
-use Rattle.asm_program.specs.Layout.PartChange.{Stays, Moves, Enters, Goes, Defines, Reserves}
+use Rattle.asm_program.specs.Layout.PartChange.{Stays, Moves, Enters, Goes, Defines, Reserves, Maps}
 use Rattle.asm_program.specs.Parts.{Piece, piece_of}
 use Rattle.asm_program.specs.Sections.{are_settled, bases_of, zeros}
 use Rattle.asm_program.specs.Written.{AllKnown, PartWriting, known_of, part_written}
@@ -39,6 +39,7 @@ changing_of (changes.Enters section) = Enters section
 changing_of (changes.Goes to) = Goes to
 changing_of (changes.Defines symbol) = Defines (named_of symbol)
 changing_of (changes.Reserves symbol next) = Reserves (named_of symbol) next
+changing_of (changes.Maps map symbol) = Maps map (option_map named_of symbol)
 
 abbrev pub change_of : Result Change Fault → Result PartChange Fault
 change_of (Ok change) = Ok (changing_of change)
@@ -68,6 +69,7 @@ reached_of layout = record {
   counters = layout.counters;
   symbols = map named_of layout.symbols.items;
   left = layout.left.items;
+  entries = layout.entries.items;
 }
 
 abbrev pub laid_of : Layout → Laid
@@ -130,7 +132,7 @@ with_before before (Ok more) = Ok (before ++ more)
 -- ---- both
 
 abbrev pub sum_after : Laid → Result Sum Fault
-sum_after laid = sum_in (known_of laid.reached.symbols laid.standings) nothing_written laid.standings
+sum_after laid = sum_in (known_of laid.reached laid.standings) nothing_written laid.standings
 
 abbrev pub imaged : Laid → Result Sum Fault → Result Image Fault
 imaged laid (Err fault) = Err fault

@@ -5,5 +5,5 @@ use Rattle.asm_program.proofs.output.write_each.Given as goal
 
 abbrev pub invariant-loop-statement : goal.invariant-loop-statement
 invariant-loop-statement l =
-    sum_in (record { symbols = map named_of l.symbols; highs = l.highs }) (sum_of l.output) (map standing_of (drop l.statement-index l.statements))
-    ≡ sum_in (record { symbols = map named_of l.symbols; highs = l.highs }) nothing_written (map standing_of l.statements)
+    sum_in (record { symbols = map named_of l.symbols; highs = l.highs; entries = l.entries }) (sum_of l.output) (map standing_of (drop l.statement-index l.statements))
+    ≡ sum_in (record { symbols = map named_of l.symbols; highs = l.highs; entries = l.entries }) nothing_written (map standing_of l.statements)

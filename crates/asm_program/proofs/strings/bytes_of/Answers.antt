@@ -1,4 +1,4 @@
-use Rattle.std.proofs.Common.{◌≡◌, ◌<◌, ◌+◌, ◌-◌, List, length, sym, ap, ◌∙◌, arith, inl, inr, rules, Some, ℕ}
+use Rattle.std.proofs.Common.{◌≡◌, ◌<◌, ◌+◌, List, length, sym, ap, ◌∙◌, arith, inl, inr, rules, Some, ℕ}
 use Rattle.std.specs.Prelude.{◌⊎◌, option_map}
 use Rattle.asm_program.specs.Strings.{string_bytes, tail_of}
 use Rattle.asm_program.proofs.StringBytes.{bytes_done, bytes_fail, size_more}
