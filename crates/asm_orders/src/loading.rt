@@ -1,6 +1,6 @@
 //! Reads a program in assembly, its board and its conditions.
 use crate::loader::with_loader;
-use crate::naming::{bad_numbered, lets_wfi_return, with_numbers};
+use crate::naming::{Machine, bad_numbered, has_machine, with_numbers};
 use crate::reading::{Unloaded, unread};
 use crate::sources::Sources;
 use asm_program::{
@@ -10,6 +10,7 @@ use asm_tokens::TextPlace;
 use board_core::{Config, USUAL_ASID_LEN, USUAL_WIDTH};
 use conditions::{Condition, Wrong, conditions};
 use diagnostics::said;
+use marked_conditions::asks_of_marks;
 use rv64_instructions::{Instruction, Register};
 use std::alloc::{AllocError, Global};
 use std::str;
@@ -23,6 +24,8 @@ pub(crate) struct Loaded<'a> {
     pub(crate) config: Config,
     /// Its conditions.
     pub(crate) conditions: Vec<Condition>,
+    /// Whether its board has any TLBs that the standard allows.
+    pub(crate) any_tlb: bool,
 }
 
 /// The program that files say, with its board, and the conditions of its own file.
@@ -41,7 +44,7 @@ pub(crate) fn load<'a>(alloc: Global, sources: &'a Sources) -> Result<Loaded<'a>
         )?);
     };
     let has_begin = program.code.iter().any(|line| line.at == board.boot_addr);
-    if lets_wfi_return(sources.own()) {
+    if has_machine(sources.own(), Machine::WfiReturns) {
         return_from_wfi(&mut program.code);
     }
     let config = with_loader(alloc, name, &mut program, board)?;
@@ -49,11 +52,43 @@ pub(crate) fn load<'a>(alloc: Global, sources: &'a Sources) -> Result<Loaded<'a>
     if board.is_good() && !has_begin {
         return Err(without_begin(alloc, name, board.boot_addr)?);
     }
+    let any_tlb = has_machine(sources.own(), Machine::AnyTlb);
+    if any_tlb && let Some(why) = bad_for_any_tlb(alloc, &program.code, &conditions)? {
+        return Err(Unloaded::File(format!(in alloc; "{name}{why}")?));
+    }
     Ok(Loaded {
         program,
         config,
         conditions,
+        any_tlb,
     })
+}
+
+/// What a program with any TLBs can't have, if it has that: a condition on marks, which are of this board's TLB entries, or a fetch.
+fn bad_for_any_tlb(
+    alloc: Global,
+    code: &[CodeLine],
+    conditions: &[Condition],
+) -> Result<Option<String>, AllocError> {
+    for condition in conditions {
+        if asks_of_marks(&condition.rule) {
+            let line = condition.line;
+            let why = format!(in alloc;
+                ": line {line}: with 'any tlb' no condition asks of marks: ask it in a file without"
+            )?;
+            return Ok(Some(why));
+        }
+    }
+    if code.iter().any(is_fetch) {
+        let why = format!(in alloc; ": with 'any tlb' no guest fetches")?;
+        return Ok(Some(why));
+    }
+    Ok(None)
+}
+
+/// Whether an instruction is the board's Fetch.
+fn is_fetch(line: &CodeLine) -> bool {
+    matches!(line.instruction, Instruction::Fetch { .. })
 }
 
 /// The conditions of a program's own file.

@@ -9,6 +9,8 @@ mod finding;
 mod judging;
 mod loader;
 mod loading;
+mod loose_records;
+mod loosely;
 mod marked;
 mod naming;
 mod reading;

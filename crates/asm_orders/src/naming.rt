@@ -30,26 +30,46 @@ const WORDS: [&[u8]; 21] = [
     b"unsteady",
 ];
 
-/// The words of a line that says, behind its `#!`, that WFI may return without a wake.
+/// What a line says, behind its `#!`, of the machine on which all orders are explored.
+#[derive(Clone, Copy, PartialEq, Eq)]
+pub(crate) enum Machine {
+    /// `wfi may return`: without a wake (Privileged 3.3.3).
+    WfiReturns,
+    /// `any tlb`: the board has any TLBs that the standard allows (Privileged 4.2.1, 4.3.2).
+    AnyTlb,
+}
+
 const WFI_RETURNS: [&[u8]; 3] = [b"wfi", b"may", b"return"];
 
-/// Whether a line of a program says so.
-pub(crate) fn lets_wfi_return(text: &[u8]) -> bool {
-    text.split(|b| *b == b'\n').any(is_of_wfi)
+const ANY_TLB: [&[u8]; 2] = [b"any", b"tlb"];
+
+/// Whether a line of a program says this of the machine.
+pub(crate) fn has_machine(text: &[u8], machine: Machine) -> bool {
+    text.split(|b| *b == b'\n')
+        .any(|line| machine_of(line) == Some(machine))
 }
 
-/// Whether a line says so.
-fn is_of_wfi(line: &[u8]) -> bool {
-    let Some(asked) = line.trim_ascii_start().strip_prefix(b"#!") else {
-        return false;
-    };
-    let said = asked.split(|b| *b == b'#').next().unwrap_or(b"");
+/// What a line says of the machine.
+fn machine_of(line: &[u8]) -> Option<Machine> {
+    let asked = line.trim_ascii_start().strip_prefix(b"#!")?;
+    let said = asked.split(|b| *b == b'#').next()?;
+    if has_words(said, &WFI_RETURNS) {
+        Some(Machine::WfiReturns)
+    } else if has_words(said, &ANY_TLB) {
+        Some(Machine::AnyTlb)
+    } else {
+        None
+    }
+}
+
+/// Whether a text has just these words.
+fn has_words(said: &[u8], words: &[&[u8]]) -> bool {
     said.split(|b| is_between(*b))
         .filter(|word| !word.is_empty())
-        .eq(WFI_RETURNS.iter().copied())
+        .eq(words.iter().copied())
 }
 
-/// A program's text in which the symbols of conditions are numbers. The line about WFI is a plain comment there.
+/// A program's text in which the symbols of conditions are numbers. A line about the machine is a plain comment there.
 ///
 /// # Errors
 ///
@@ -77,7 +97,7 @@ fn put_line(
     out: &mut Vec<u8>,
 ) -> Result<(), AllocError> {
     match line.trim_ascii_start().strip_prefix(b"#!") {
-        Some(_) if is_of_wfi(line) => Ok(()),
+        Some(_) if machine_of(line).is_some() => Ok(()),
         Some(asked) => {
             let front = line.len().saturating_sub(asked.len());
             out.extend_from_slice(line.get(..front).unwrap_or(b""))?;

@@ -37,8 +37,7 @@ fn is_done(board: &Board, h: u64, guest: &AsmGuest) -> bool
     match board.state(h) {
         HartState::Stopped => true,
         HartState::Started => {
-            board.outstanding(h).is_none()
-                && matches!(guest, AsmGuest::Nowhere | AsmGuest::Through(_))
+            board.outstanding(h).is_none() && matches!(guest, AsmGuest::Nowhere | AsmGuest::Through)
         }
         _ => false,
     }
@@ -81,7 +80,7 @@ pub(crate) fn put_guest<C: Code>(
 ) -> Result<(), AllocError> {
     match guest {
         AsmGuest::Nowhere => out.push_str("not entered"),
-        AsmGuest::Through(_) => out.push_str("through"),
+        AsmGuest::Through => out.push_str("through"),
         AsmGuest::Before(state) | AsmGuest::Trapping(state) => put_source(search, state.pc, out),
         AsmGuest::Astray(lost, at) => put_lost(search, *lost, *at, out),
     }

@@ -1,3 +1,0 @@
-pub mod Finals
-pub mod Connectives
-pub mod Truths
