@@ -47,7 +47,7 @@ def is_alike(room, name, lines):
     except ValueError:
         return None
     wanted = asked(loose, name)
-    ends = [(f"maybe end {it}", loose.ends == {it}) for it in ("quiet", "stuck", "off")]
+    ends = [(f"maybe end {it}", loose.ends <= {it}) for it in ("quiet", "stuck", "off")]
     board, blocks, ticks = found
     conditions = ["any tlb", *(it for it, _ in wanted + ends)]
     write(os.path.join(room, f"{name}.s"), in_assembly(board, blocks, ticks, conditions))
@@ -113,7 +113,7 @@ class AnyTlb(Test):
             return is_alike(self.room, name, [it for it in read(path).splitlines() if not it.startswith("#")])
 
         tried = at_once(is_tried, paths)
-        must(f"{tried.count(None)} of {len(paths)} aren't tried, {tried.count(True)} get more", tried.count(None) <= 10 and tried.count(True) >= 8)
+        must(f"{tried.count(None)} of {len(paths)} aren't tried, {tried.count(True)} get more", tried.count(None) == 0 and tried.count(True) >= 7)
 
     def test_random_programs_with_any_tlb(self):
         def is_tried(seed):
