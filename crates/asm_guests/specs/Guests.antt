@@ -1,5 +1,5 @@
 -- What guests of instructions do: the next operation, and the state behind its reply (profile).
-use Rattle.std.specs.Prelude.{ℕ, zero, suc, Bool, false, if◌then◌else◌, List, [], ◌∷◌, Option, Some, None}
+use Rattle.std.specs.Prelude.{ℕ, zero, suc, false, if◌then◌else◌, List, [], ◌∷◌, Option, Some, None}
 use Rattle.board_terms.specs.declared.op.Op.{Op}
 use Rattle.board_terms.specs.declared.op.Op.TheVariants.{WriteSstatusSie}
 use Rattle.board_terms.specs.declared.reply.Reply.{Reply}
@@ -14,26 +14,32 @@ use Rattle.asm_guests.specs.Replies.Behind.{GoesOn, Leaves, Strays, Traps}
 use Rattle.asm_guests.specs.declared.guest.AsmGuest.{AsmGuest}
 use Rattle.asm_guests.specs.declared.guest.AsmGuest.TheVariants.{Nowhere, Before, Trapping, Through, Astray}
 use Rattle.asm_guests.specs.declared.state.GuestState.{GuestState}
-use Rattle.asm_guests.specs.States.{entered}
+use Rattle.asm_guests.specs.States.{entered, none_known}
 
 -- The most local steps without an operation.
 unfoldable pub most_steps : ℕ
 most_steps = 100000
 
+-- ---- ends
+
+-- through, in this state, whose registers are kept if the program's guests keep them
+abbrev pub at_end : Listing → GuestState → AsmGuest
+at_end code s = Through (if code.keeps then s.registers else none_known)
+
 -- ---- local steps are done at once
 
-abbrev pub by_turn : LocalTurn → (later : GuestState → AsmGuest) → AsmGuest
-by_turn (Steps s) later = later s
-by_turn (Waits s) later = Before s
-by_turn Ends later = Through
+abbrev pub by_turn : Listing → LocalTurn → (later : GuestState → AsmGuest) → AsmGuest
+by_turn code (Steps s) later = later s
+by_turn code (Waits s) later = Before s
+by_turn code (Ends s) later = at_end code s
 
 -- without an instruction a guest is through at the end of a section, and lost anywhere else
-abbrev pub without_instruction : (is_end : Bool) → (at : ℕ) → AsmGuest
-without_instruction is_end at = if is_end then Through else Astray NoInstruction at
+abbrev pub without_instruction : Listing → GuestState → AsmGuest
+without_instruction code s = if code.is_end s.pc then at_end code s else Astray NoInstruction s.pc
 
 abbrev pub fetched : Listing → Option Instruction → GuestState → (later : GuestState → AsmGuest) → AsmGuest
-fetched code None s later = without_instruction (code.is_end s.pc) s.pc
-fetched code (Some instruction) s later = by_turn (local_turn code.spaces instruction s) later
+fetched code None s later = without_instruction code s
+fetched code (Some instruction) s later = by_turn code (local_turn code.spaces instruction s) later
 
 -- The guest from a state on, if it does at most n local steps before an operation or its end.
 abbrev pub settled : Listing → (n : ℕ) → GuestState → AsmGuest
@@ -54,13 +60,13 @@ abbrev pub next_by : Listing → AsmGuest → Option Op
 next_by code Nowhere = None
 next_by code (Before s) = instruction_op (code.instruction s.pc) s
 next_by code (Trapping s) = Some (WriteSstatusSie false)
-next_by code Through = None
+next_by code (Through registers) = None
 next_by code (Astray lost at) = None
 
 abbrev pub went : Listing → (at : ℕ) → Behind → AsmGuest
 went code at (GoesOn s) = settled_from code s
 went code at (Traps s) = Trapping s
-went code at Leaves = Through
+went code at Leaves = Through none_known
 went code at (Strays lost) = Astray lost at
 
 abbrev pub after_instruction : Listing → Option Instruction → GuestState → Reply → AsmGuest
@@ -74,7 +80,7 @@ guest_after code (Trapping s) reply = settled_from code (trap_taken s)
 guest_after code guest reply = guest
 
 abbrev pub entered_at : Listing → Option Instruction → GuestState → AsmGuest
-entered_at code None s = Through
+entered_at code None s = Through none_known
 entered_at code (Some instruction) s = settled_from code s
 
 -- The guest at an entry. Where no instruction stands it has nothing to do.

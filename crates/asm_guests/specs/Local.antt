@@ -23,13 +23,13 @@ use Rattle.asm_guests.specs.States.{passed, goes_to, known, knows, with_register
 pub data LocalTurn : Type 0 where
   Steps : GuestState → LocalTurn
   Waits : GuestState → LocalTurn
-  Ends : LocalTurn
+  Ends : GuestState → LocalTurn
 
 -- the turn of an instruction that was done so far, with the state passed it
 abbrev pub local_turn_of : Did → GuestState → LocalTurn
 local_turn_of Stepped s = Steps s
 local_turn_of Waited s = Waits s
-local_turn_of Ended s = Ends
+local_turn_of Ended s = Ends s
 
 -- the state passed an instruction that writes a register; the value is known if what it comes from is
 abbrev pub puts : (register value : ℕ) → (is_known : Bool) → GuestState → GuestState
@@ -42,12 +42,12 @@ address s base offset = low_sum w64 (value_held s base) offset
 -- a branch, which ends a guest if it leads to itself
 abbrev pub branches : Comparison → (rs1 rs2 to : ℕ) → GuestState → LocalTurn
 branches when rs1 rs2 to s =
-    if is_taken when (value_held s rs1) (value_held s rs2) then (if to == s.pc then Ends else Steps (goes_to s to))
+    if is_taken when (value_held s rs1) (value_held s rs2) then (if to == s.pc then Ends s else Steps (goes_to s to))
     else Steps (passed s)
 
 -- a jump that links, which ends a guest if it leads to itself
 abbrev pub jumps : GuestState → (register to : ℕ) → LocalTurn
-jumps s rd to = if to == s.pc then Ends else Steps (goes_to (with_register s rd (known (low_sum w64 s.pc 4))) to)
+jumps s rd to = if to == s.pc then Ends s else Steps (goes_to (with_register s rd (known (low_sum w64 s.pc 4))) to)
 
 -- a CSR instruction: a read alone, or a write to a CSR that the board doesn't have, is local
 abbrev pub csr_turn : Spaces → CsrHow → Csr → (register : ℕ) → CsrSource → GuestState → LocalTurn
@@ -76,5 +76,5 @@ local_turn spaces (JumpRegister rd rs1 offset) s = jumps s rd (target s rs1 (imm
 local_turn spaces (OnCsr how csr rd from) s = csr_turn spaces how csr rd from s
 local_turn spaces (ClearSip from) s = sip_turn from s
 local_turn spaces Fence s = Steps (passed s)
-local_turn spaces Ebreak s = Ends
+local_turn spaces Ebreak s = Ends s
 local_turn spaces instruction s = Waits s

@@ -1,5 +1,5 @@
 -- The state of a guest of instructions (unprivileged ISA 20191213, 2.1; Privileged 4.1; that a register can be unknown: profile).
-use Rattle.std.specs.Prelude.{ℕ, Bool, true, false, ◌==◌, if◌then◌else◌, None, get_or, replicate, slice_set}
+use Rattle.std.specs.Prelude.{ℕ, Bool, true, false, ◌==◌, if◌then◌else◌, List, None, get_or, replicate, slice_set}
 use Rattle.std.specs.Int.{w64}
 use Rattle.rv64_alu.specs.Functions.{low_sum}
 use Rattle.asm_guests.specs.declared.csrs.GuestCsrs.{GuestCsrs}
@@ -13,6 +13,10 @@ known n = record { value = n; is_known = true }
 
 abbrev pub unknown : RegisterContent
 unknown = record { value = 0; is_known = false }
+
+-- nothing is known of any register
+abbrev pub none_known : List RegisterContent
+none_known = replicate 32 unknown
 
 -- ---- registers; x0 is 0 (unprivileged ISA 2.1)
 
@@ -58,4 +62,4 @@ entered_csrs = record {
 -- The state at an entry: the hart's id in a0, the opaque value in a1, and nothing known of the other registers (SBI 9.1, 9.4).
 abbrev pub entered : (addr hart opaque : ℕ) → GuestState
 entered addr hart opaque =
-    with_register (with_register (record { pc = addr; registers = replicate 32 unknown; csrs = entered_csrs }) 10 (known hart)) 11 (known opaque)
+    with_register (with_register (record { pc = addr; registers = none_known; csrs = entered_csrs }) 10 (known hart)) 11 (known opaque)

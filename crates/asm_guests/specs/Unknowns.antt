@@ -84,7 +84,7 @@ is_by_unknown instruction s = false
 abbrev pub unknown_by_turn : LocalTurn → (later : GuestState → Option ℕ) → Option ℕ
 unknown_by_turn (Steps s) later = later s
 unknown_by_turn (Waits s) later = None
-unknown_by_turn Ends later = None
+unknown_by_turn (Ends s) later = None
 
 abbrev pub unknown_at : Listing → Option Instruction → GuestState → (later : GuestState → Option ℕ) → Option ℕ
 unknown_at code None s later = None

@@ -46,7 +46,7 @@ lost_number UserMode = 3
 -- The words of a guest: its kind, and what it has.
 abbrev pub guest_words : AsmGuest → List ℕ
 guest_words Nowhere = 0 ∷ []
-guest_words Through = 1 ∷ []
+guest_words (Through registers) = 1 ∷ register_words 0 registers
 guest_words (Before s) = 2 ∷ guest_state_words s
 guest_words (Trapping s) = 3 ∷ guest_state_words s
 guest_words (Astray lost at) = 4 ∷ lost_number lost ∷ at ∷ []

@@ -1,11 +1,11 @@
 //! Guests between two operations.
 ghost use Rattle.std.specs.Prelude.{◌≡◌};
-ghost use Rattle.asm_guests.specs.Guests.{guest_after, after_instruction, at_entry, next_by, settled, without_instruction};
+ghost use Rattle.asm_guests.specs.Guests.{at_end, guest_after, after_instruction, at_entry, next_by, settled, without_instruction};
 
 use crate::local::{Did, step};
 use crate::operations::op_by;
 use crate::replies::{Came, take, take_trap};
-use crate::state::GuestState;
+use crate::state::{GuestState, RegisterContent, none_known};
 use board_terms::{Op, Reply};
 use rv64_instructions::Instruction;
 use sv39::Spaces;
@@ -31,6 +31,10 @@ pub trait Code {
     fn spaces(&self) -> Spaces
         ensures widths { result ≡ (listing self.now).spaces }
         ensures narrow { result.asid_len ≤ ASID_BITS };
+
+    /// Whether guests keep their registers at their ends.
+    fn keeps(&self) -> bool
+        ensures { result ≡ (listing self.now).keeps };
 }
 
 /// Why a guest can't go on, although it isn't through.
@@ -55,8 +59,8 @@ pub enum AsmGuest {
     Before(GuestState),
     /// Before the operation that clears sstatus.SIE for a trap.
     Trapping(GuestState),
-    /// Through.
-    Through,
+    /// Through. What its registers hold is kept if the program's guests keep them.
+    Through([RegisterContent; 32]),
     /// Lost, at this address.
     Astray(Lost, u64),
 }
@@ -70,7 +74,7 @@ pub fn at_entry<C: Code>(code: &C, addr: u64, hart: u64, opaque: u64) -> AsmGues
 {
     match code.instruction_at(addr) {
         Some(_) => settle(code, GuestState::entered(addr, hart, opaque), MOST_STEPS),
-        None => AsmGuest::Through,
+        None => AsmGuest::Through(none_known()),
     }
 }
 
@@ -101,7 +105,7 @@ fn after_instruction<C: Code>(code: &C, from: GuestState, reply: Reply) -> AsmGu
     match take(&mut state, &instruction, reply, code.spaces()) {
         Came::GoesOn => settle(code, state, MOST_STEPS),
         Came::Traps => AsmGuest::Trapping(state),
-        Came::Leaves => AsmGuest::Through,
+        Came::Leaves => AsmGuest::Through(none_known()),
         Came::Strays(lost) => AsmGuest::Astray(lost, at),
     }
 }
@@ -129,25 +133,36 @@ fn settle<C: Code>(code: &C, from: GuestState, most: u32) -> AsmGuest
     let mut left = most;
     'steps: while left > 0 {
         let Some(instruction) = code.instruction_at(state.pc) else {
-            return without_instruction(code, state.pc);
+            return without_instruction(code, &state);
         };
         match step(&mut state, &instruction, code.spaces()) {
             Did::Stepped => {}
             Did::Waits => return AsmGuest::Before(state),
-            Did::Ended => return AsmGuest::Through,
+            Did::Ended => return at_end(code, &state),
         }
         left -= 1;
     }
     AsmGuest::Astray(Lost::Endless, state.pc)
 }
 
-/// The guest at an address without an instruction.
-fn without_instruction<C: Code>(code: &C, pc: u64) -> AsmGuest
-    ensures { result ≡ without_instruction ((C.listing code.now).is_end pc) pc }
+/// The guest in a state at whose address no instruction is.
+fn without_instruction<C: Code>(code: &C, state: &GuestState) -> AsmGuest
+    ensures { result ≡ without_instruction (C.listing code.now) state.now }
 {
-    if code.is_end(pc) {
-        AsmGuest::Through
+    if code.is_end(state.pc) {
+        at_end(code, state)
     } else {
-        AsmGuest::Astray(Lost::NoInstruction, pc)
+        AsmGuest::Astray(Lost::NoInstruction, state.pc)
+    }
+}
+
+/// The guest that is through in this state.
+fn at_end<C: Code>(code: &C, state: &GuestState) -> AsmGuest
+    ensures { result ≡ at_end (C.listing code.now) state.now }
+{
+    if code.keeps() {
+        AsmGuest::Through(state.registers)
+    } else {
+        AsmGuest::Through(none_known())
     }
 }

@@ -1,7 +1,7 @@
 //! The state of a guest: its registers, its CSRs, and where it is.
 ghost use Rattle.std.specs.Prelude.{◌≡◌, ◌<◌};
 ghost use Rattle.asm_guests.specs.Csrs.{operand};
-ghost use Rattle.asm_guests.specs.States.{passed, register_content, entered, known, with_register, unknown, value_held};
+ghost use Rattle.asm_guests.specs.States.{passed, register_content, entered, known, none_known, with_register, unknown, value_held};
 
 use crate::csrs::GuestCsrs;
 use rv64_instructions::{CsrSource, Register};
@@ -48,6 +48,13 @@ impl RegisterContent {
     }
 }
 
+/// Nothing is known of any register.
+pub(crate) fn none_known() -> [RegisterContent; 32]
+    ensures { result ≡ none_known }
+{
+    [RegisterContent::unknown(); 32]
+}
+
 impl GuestState {
     /// The state at an entry: the hart's id in a0, the opaque value in a1 (SBI 9.1, 9.4).
     pub(crate) fn entered(addr: u64, hart: u64, opaque: u64) -> GuestState
@@ -55,7 +62,7 @@ impl GuestState {
     {
         let mut state = GuestState {
             pc: addr,
-            registers: [RegisterContent::unknown(); 32],
+            registers: none_known(),
             csrs: GuestCsrs::entered(),
         };
         state.put(10, RegisterContent::known(hart));

@@ -22,6 +22,6 @@ is_behind_last lines ends pc =
     list_any (λ end. end == pc) ends && is_some (instruction_in lines ((pc + (2 ^ 64 - 4)) % 2 ^ 64))
 
 -- What a program lists: its instructions by their addresses. A guest that goes on behind a section's last instruction is through.
-abbrev pub listing_of : List CodeLine → (ends : List ℕ) → Spaces → Listing
-listing_of lines ends spaces =
-    record { instruction = instruction_in lines; is_end = is_behind_last lines ends; spaces = spaces }
+abbrev pub listing_of : List CodeLine → (ends : List ℕ) → Spaces → (keeps : Bool) → Listing
+listing_of lines ends spaces keeps =
+    record { instruction = instruction_in lines; is_end = is_behind_last lines ends; spaces = spaces; keeps = keeps }

@@ -22,6 +22,8 @@ pub struct CodeIndex<'a> {
     pub ends: &'a [u64],
     /// The widths of the board's addresses and address spaces.
     pub spaces: Spaces,
+    /// Whether guests keep their registers at their ends.
+    pub keeps: bool,
     /// The place of the first instruction of each address.
     first: BTreeMap<u64, usize>,
     ghost indexed: { (at : ℕ) → line_found lines.now (get nat_cmp first at) ≡ instruction_in lines.now at },
@@ -38,11 +40,13 @@ impl<'a> CodeIndex<'a> {
         alloc: Global,
         program: &'a Assembly<'_>,
         spaces: Spaces,
+        keeps: bool,
     ) -> Result<CodeIndex<'a>, AllocError>
         requires { spaces.asid_len ≤ ASID_BITS }
         ensures lines { IfOk result (λ index. index.lines.now ≡ program.now.code.items) }
         ensures ends { IfOk result (λ index. index.ends.now ≡ program.now.ends.items) }
         ensures spaces { IfOk result (λ index. index.spaces ≡ spaces) }
+        ensures keeps { IfOk result (λ index. index.keeps ≡ keeps) }
     {
         let lines = program.code.as_slice();
         let first = first_lines(alloc, lines)?;
@@ -50,6 +54,7 @@ impl<'a> CodeIndex<'a> {
             lines,
             ends: program.ends.as_slice(),
             spaces,
+            keeps,
             first,
         })
     }
@@ -60,7 +65,7 @@ impl<'a> Code for CodeIndex<'a> {
     ghost use Rattle.sv39.specs.declared.paging.TheConstants.{ASID_BITS};
     ghost use Rattle.asm_listing.specs.Listed.{listing_of};
 
-    ghost listing = { λ index. listing_of index.lines.now index.ends.now index.spaces };
+    ghost listing = { λ index. listing_of index.lines.now index.ends.now index.spaces index.keeps };
 
     fn instruction_at(&self, pc: u64) -> Option<Instruction> {
         let place = self.first.get(&pc)?;
@@ -74,6 +79,10 @@ impl<'a> Code for CodeIndex<'a> {
 
     fn spaces(&self) -> Spaces {
         self.spaces
+    }
+
+    fn keeps(&self) -> bool {
+        self.keeps
     }
 }
 

@@ -1,8 +1,9 @@
 //! Reads a program in assembly, its board and its conditions.
+use crate::ends::{EndCondition, end_conditions};
 use crate::loader::with_loader;
 use crate::naming::{Machine, bad_numbered, has_machine, with_numbers};
 use crate::reading::{Unloaded, unread};
-use crate::sources::Sources;
+use crate::sources::{SourceFile, Sources};
 use asm_program::{
     Assembly, AssemblyError, CodeLine, Datum, ProgramFault, ProgramWrong, assemble_text,
 };
@@ -24,6 +25,8 @@ pub(crate) struct Loaded<'a> {
     pub(crate) config: Config,
     /// Its conditions.
     pub(crate) conditions: Vec<Condition>,
+    /// Those on the ends of all orders.
+    pub(crate) ends: Vec<EndCondition>,
     /// Whether its board has any TLBs that the standard allows.
     pub(crate) any_tlb: bool,
 }
@@ -52,24 +55,35 @@ pub(crate) fn load<'a>(alloc: Global, sources: &'a Sources) -> Result<Loaded<'a>
     if board.is_good() && !has_begin {
         return Err(without_begin(alloc, name, board.boot_addr)?);
     }
+    let ends = end_conditions(alloc, sources.own())?;
     let any_tlb = has_machine(sources.own(), Machine::AnyTlb);
-    if any_tlb && let Some(why) = bad_for_any_tlb(alloc, &program.code, &conditions)? {
+    if any_tlb && let Some(why) = bad_for_any_tlb(alloc, &program.code, &conditions, &ends)? {
         return Err(Unloaded::File(format!(in alloc; "{name}{why}")?));
     }
     Ok(Loaded {
         program,
         config,
         conditions,
+        ends,
         any_tlb,
     })
 }
 
-/// What a program with any TLBs can't have, if it has that: a condition on marks, which are of this board's TLB entries, or a fetch.
+/// What a program with any TLBs can't have, if it has that: a condition on marks, which are of this board's TLB entries, or on what
+/// ends leave, or a fetch.
 fn bad_for_any_tlb(
     alloc: Global,
     code: &[CodeLine],
     conditions: &[Condition],
+    ends: &[EndCondition],
 ) -> Result<Option<String>, AllocError> {
+    if let Some(condition) = ends.first() {
+        let line = condition.line;
+        let why = format!(in alloc;
+            ": line {line}: with 'any tlb' no condition is 'exists' or 'forall': ask it in a file without"
+        )?;
+        return Ok(Some(why));
+    }
     for condition in conditions {
         if asks_of_marks(&condition.rule) {
             let line = condition.line;
@@ -131,8 +145,32 @@ fn without_begin(alloc: Global, name: &str, boot_addr: u64) -> Result<Unloaded, 
 /// A program with a fault: its file, line and column, what is wrong, and the rest of the line.
 fn faulty(alloc: Global, sources: &Sources, fault: ProgramFault) -> Result<Unloaded, AllocError> {
     let (file, TextPlace { line, column }) = sources.place(sources.byte_at(fault.place));
+    told(alloc, file, line, column, what_is(fault.wrong))
+}
+
+/// The same of a line of the program's own file, with the number of bytes from the fault to the line's end.
+pub(crate) fn faulty_at(
+    alloc: Global,
+    sources: &Sources,
+    line: u64,
+    left: usize,
+    what: &str,
+) -> Result<Unloaded, AllocError> {
+    let line = line as usize;
+    let many = rest_of(sources.own(), line, 1).len();
+    let column = many.saturating_sub(left).saturating_add(1);
+    told(alloc, sources.own_file(), line, column, what)
+}
+
+/// A fault of a file, with its place, which counts from 1.
+fn told(
+    alloc: Global,
+    file: &SourceFile,
+    line: usize,
+    column: usize,
+    what: &str,
+) -> Result<Unloaded, AllocError> {
     let name = &file.name;
-    let what = what_is(fault.wrong);
     let rest = said(str::from_utf8(rest_of(&file.text, line, column)).unwrap_or(""));
     let rest = with_blanks(alloc, rest)?;
     Ok(Unloaded::File(format!(in alloc; "{name}:{line}:{column}: {what}: '{rest}'")?))
@@ -166,7 +204,7 @@ fn what_is(wrong: ProgramWrong) -> &'static str {
 }
 
 /// What is wrong with characters, in words.
-fn text_wrong(wrong: asm_tokens::BadText) -> &'static str {
+pub(crate) fn text_wrong(wrong: asm_tokens::BadText) -> &'static str {
     match wrong {
         asm_tokens::BadText::BadByte => "no token begins so",
         asm_tokens::BadText::OpenString => "a string isn't closed on its line",
@@ -175,7 +213,7 @@ fn text_wrong(wrong: asm_tokens::BadText) -> &'static str {
 }
 
 /// What is wrong with a statement, in words.
-fn statement_wrong(wrong: asm_expressions::Wrong) -> &'static str {
+pub(crate) fn statement_wrong(wrong: asm_expressions::Wrong) -> &'static str {
     use asm_expressions::Wrong as Bad;
     match wrong {
         Bad::NoValue => "a value is missing",

@@ -4,6 +4,7 @@
 
 mod answers;
 mod early;
+mod ends;
 mod exploring;
 mod finding;
 mod judging;

@@ -1,4 +1,5 @@
 //! Symbols in conditions, which stand for their values (profile).
+use crate::ends::asked_of_ends;
 use asm_expressions::Symbol;
 use conditions::Fault;
 use diagnostics::bad_condition;
@@ -69,7 +70,8 @@ fn has_words(said: &[u8], words: &[&[u8]]) -> bool {
         .eq(words.iter().copied())
 }
 
-/// A program's text in which the symbols of conditions are numbers. A line about the machine is a plain comment there.
+/// A program's text in which the symbols of conditions are numbers. A line about the machine or about ends is
+/// a plain comment there.
 ///
 /// # Errors
 ///
@@ -97,7 +99,7 @@ fn put_line(
     out: &mut Vec<u8>,
 ) -> Result<(), AllocError> {
     match line.trim_ascii_start().strip_prefix(b"#!") {
-        Some(_) if machine_of(line).is_some() => Ok(()),
+        Some(_) if machine_of(line).is_some() || asked_of_ends(line).is_some() => Ok(()),
         Some(asked) => {
             let front = line.len().saturating_sub(asked.len());
             out.extend_from_slice(line.get(..front).unwrap_or(b""))?;

@@ -69,6 +69,11 @@ impl Sources {
         self.own.name.as_str()
     }
 
+    /// Its own file.
+    pub(crate) fn own_file(&self) -> &SourceFile {
+        &self.own
+    }
+
     /// The bytes of its own file.
     pub(crate) fn own(&self) -> &[u8] {
         &self.own.text

@@ -37,7 +37,8 @@ fn is_done(board: &Board, h: u64, guest: &AsmGuest) -> bool
     match board.state(h) {
         HartState::Stopped => true,
         HartState::Started => {
-            board.outstanding(h).is_none() && matches!(guest, AsmGuest::Nowhere | AsmGuest::Through)
+            board.outstanding(h).is_none()
+                && matches!(guest, AsmGuest::Nowhere | AsmGuest::Through(_))
         }
         _ => false,
     }
@@ -80,7 +81,7 @@ pub(crate) fn put_guest<C: Code>(
 ) -> Result<(), AllocError> {
     match guest {
         AsmGuest::Nowhere => out.push_str("not entered"),
-        AsmGuest::Through => out.push_str("through"),
+        AsmGuest::Through(_) => out.push_str("through"),
         AsmGuest::Before(state) | AsmGuest::Trapping(state) => put_source(search, state.pc, out),
         AsmGuest::Astray(lost, at) => put_lost(search, *lost, *at, out),
     }

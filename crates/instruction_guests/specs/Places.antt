@@ -12,7 +12,7 @@ use Rattle.asm_guests.specs.Listings.{Listing}
 -- What a guest does next. One that is lost waits for a call that it never made: its hart refuses Poll, and so it doesn't go on.
 abbrev pub op_in_code : Listing → AsmGuest → Option Op
 op_in_code code Nowhere = None
-op_in_code code Through = None
+op_in_code code (Through registers) = None
 op_in_code code (Astray lost at) = Some Poll
 op_in_code code (Before s) = Some (unwrap_or (next_by code (Before s)) Poll)
 op_in_code code (Trapping s) = Some (unwrap_or (next_by code (Trapping s)) Poll)

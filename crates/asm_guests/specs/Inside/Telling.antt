@@ -184,17 +184,20 @@ lost-told UserMode UserMode same = refl
 
 pub guest-told : (a b : AsmGuest) (front behind : List ℕ) → guest_words a ++ front ≡ guest_words b ++ behind → (a ≡ b) × (front ≡ behind)
 guest-told Nowhere Nowhere front behind same = (refl, cc)
-guest-told Nowhere Through front behind same = absurd cc
+guest-told Nowhere (Through r) front behind same = absurd cc
 guest-told Nowhere (Before t) front behind same = absurd cc
 guest-told Nowhere (Trapping t) front behind same = absurd cc
 guest-told Nowhere (Astray lost at) front behind same = absurd cc
-guest-told Through Nowhere front behind same = absurd cc
-guest-told Through Through front behind same = (refl, cc)
-guest-told Through (Before t) front behind same = absurd cc
-guest-told Through (Trapping t) front behind same = absurd cc
-guest-told Through (Astray lost at) front behind same = absurd cc
+guest-told (Through r) Nowhere front behind same = absurd cc
+guest-told (Through r) (Through q) front behind same =
+    let words : register_words 0 r ++ front ≡ register_words 0 q ++ behind = cc in
+    let told = registers-told r q front behind words in
+    (ap Through told.0, told.1)
+guest-told (Through r) (Before t) front behind same = absurd cc
+guest-told (Through r) (Trapping t) front behind same = absurd cc
+guest-told (Through r) (Astray lost at) front behind same = absurd cc
 guest-told (Before s) Nowhere front behind same = absurd cc
-guest-told (Before s) Through front behind same = absurd cc
+guest-told (Before s) (Through r) front behind same = absurd cc
 guest-told (Before s) (Before t) front behind same =
     let words : guest_state_words s ++ front ≡ guest_state_words t ++ behind = cc in
     let told = state-told s t front behind words in
@@ -202,7 +205,7 @@ guest-told (Before s) (Before t) front behind same =
 guest-told (Before s) (Trapping t) front behind same = absurd cc
 guest-told (Before s) (Astray lost at) front behind same = absurd cc
 guest-told (Trapping s) Nowhere front behind same = absurd cc
-guest-told (Trapping s) Through front behind same = absurd cc
+guest-told (Trapping s) (Through r) front behind same = absurd cc
 guest-told (Trapping s) (Before t) front behind same = absurd cc
 guest-told (Trapping s) (Trapping t) front behind same =
     let words : guest_state_words s ++ front ≡ guest_state_words t ++ behind = cc in
@@ -210,7 +213,7 @@ guest-told (Trapping s) (Trapping t) front behind same =
     (ap Trapping told.0, told.1)
 guest-told (Trapping s) (Astray lost at) front behind same = absurd cc
 guest-told (Astray lost at) Nowhere front behind same = absurd cc
-guest-told (Astray lost at) Through front behind same = absurd cc
+guest-told (Astray lost at) (Through r) front behind same = absurd cc
 guest-told (Astray lost at) (Before t) front behind same = absurd cc
 guest-told (Astray lost at) (Trapping t) front behind same = absurd cc
 guest-told (Astray lost at) (Astray other to) front behind same =

@@ -1,0 +1,3 @@
+pub mod Finals
+pub mod Connectives
+pub mod Truths
