@@ -1,5 +1,6 @@
 mod Bounds
 mod Explored
+mod LooseTold
 mod Marks
 mod StepsTold
 mod Verdicts

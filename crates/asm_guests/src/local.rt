@@ -20,6 +20,8 @@ pub(crate) enum Did {
     Stepped,
     /// Nothing yet: it is an operation of the board.
     Waits,
+    /// A loop to itself.
+    Looped,
     /// The guest's end.
     Ended,
 }
@@ -84,7 +86,7 @@ pub(crate) fn address(state: &GuestState, base: Register, offset: i32) -> u64
     state.value(base).wrapping_add(immediate(offset))
 }
 
-/// A branch; one to itself, if it is taken, ends the guest.
+/// A branch, which may lead to itself.
 fn branch(state: &mut GuestState, when: Comparison, rs1: Register, rs2: Register, to: u64) -> Did
     ensures { local_turn_of result state.new ≡ branches when rs1 rs2 to state.old }
 {
@@ -92,18 +94,18 @@ fn branch(state: &mut GuestState, when: Comparison, rs1: Register, rs2: Register
         return pass(state);
     }
     if to == state.pc {
-        return Did::Ended;
+        return Did::Looped;
     }
     state.pc = to;
     Did::Stepped
 }
 
-/// A jump that links; one to itself ends the guest.
+/// A jump that links, which may lead to itself.
 fn jump(state: &mut GuestState, rd: Register, to: u64) -> Did
     ensures { local_turn_of result state.new ≡ jumps state.old rd to }
 {
     if to == state.pc {
-        return Did::Ended;
+        return Did::Looped;
     }
     let link = state.pc.wrapping_add(4);
     state.put(rd.number(), RegisterContent::known(link));

@@ -6,6 +6,7 @@ mod blocks;
 mod board_line;
 mod draft;
 mod fault;
+mod fronts;
 mod hart_digits;
 mod laws;
 mod line_kind;

@@ -19,11 +19,12 @@ pub(crate) trait Plan: Room {
 }
 
 impl Plan for Brand {
-    ghost use Rattle.std.specs.Prelude.{[], None};
+    ghost use Rattle.std.specs.Prelude.{[]};
+    ghost use Rattle.guest_programs.specs.Guests.{nothing};
 
     ghost ticks = { [] };
 
-    ghost guests = { λ _ _. None };
+    ghost guests = { λ _. nothing };
 
     ghost lets = { λ _ _ _. Unit {0} };
 

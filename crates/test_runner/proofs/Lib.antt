@@ -1,4 +1,5 @@
 pub mod Lists
+pub mod Loosely
 pub mod Meeting
 pub mod Printing
 pub mod Records
