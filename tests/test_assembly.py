@@ -23,7 +23,6 @@ FAILING = {
     "lost-wakeup.s": (2, None),
     "hotplug.s": (2, None),
     "online-mask.s": (2, None),
-    "interrupted-wait.s": (2, None),
     "any-tlb.s": (4, "1 load 0x1000 -> value 0x11    # used 0x80001000 rw-d; any-tlb.s:36: ld t1, 0(s0)"),
     "walked-ahead.s": (3, "1 load 0x1000 -> value 0x22    # walked-ahead.s:41: ld t1, 0(s0)"),
 }
@@ -132,10 +131,10 @@ def example_is_judged(room, name):
         must(f"{name}: {lines}", [f"    {k} {it}" for k, it in enumerate(steps)] == lines[place + 1 : place + 1 + len(steps)])
         must(f"{name}: {lines}", lines[place - 1] == f"  place: {len(steps) - 1}")
         must(f"{name}: {steps}", last is None or steps[-1] == last)
-        # (each of a guest's steps has its instruction, but a trap's, and no other one)
+        # (each of a guest's steps has its instruction, and no other one)
         loaded, others = steps[1 : 1 + LOADED.get(name, 0)], steps[:1] + steps[1 + LOADED.get(name, 0) :]
         must(f"{name}: {steps}", all(it.endswith("    # the loader") for it in loaded))
-        must(f"{name}: {steps}", all(bool(re.search(rf"    # (used 0x[0-9a-f]+ [r-][w-][x-][d-]; |interrupt before )?{re.escape(name)}:", it)) == (it.split()[1] not in ("advance", "serve", "poll")) or it.split()[1:3] == ["sstatus", "0"] for it in others))
+        must(f"{name}: {steps}", all(bool(re.search(rf"    # (used 0x[0-9a-f]+ [r-][w-][x-][d-]; )?{re.escape(name)}:", it)) == (it.split()[1] not in ("advance", "serve", "poll")) for it in others))
         found = subprocess.run(["sbiboard", "check", f"{name}.{line}.failed"], executable=PROGRAM, cwd=own, capture_output=True, text=True, timeout=60)
         must(f"{name}: {found}", found.stdout == DIFFERS.get(name, f"agrees {len(steps)}\n"))
 

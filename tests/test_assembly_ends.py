@@ -105,7 +105,7 @@ TOLD = {
     "#! forall 0:zero=0 and 0:x5=0\n" + SPIN.replace("j 1b", "ebreak"): (["holds in all orders"], 0),
     # beside other conditions, whose points come first
     "#! exists 0:t0=7\n#! end stuck\n#! forall 0:t0=7\n" + LOST.replace("jr t1", "ebreak"): (["fails", "holds", "holds in all orders"], 1),
-    # one that rests in a jump to itself, where an interrupt could still come, keeps them
+    # one in a jump to itself keeps them
     "#! forall 0:t0=7 and 0:t1=2\n#! exists 0:t0=0\n" + RESTS: (["holds in all orders", "no order ends so"], 1),
     "#! any tlb\n#! exists 0:t0=7\n" + LOST: (["line 2: with 'any tlb' no condition is 'exists' or 'forall': ask it in a file without"], 1),
 }

@@ -1,6 +1,5 @@
 mod Bounds
 mod Explored
-mod LooseTold
 mod Marks
 mod StepsTold
 mod Verdicts

@@ -1,5 +1,5 @@
 -- CSRs as instructions read and write them (unprivileged ISA 20191213, 9.1; Privileged 4.1).
-use Rattle.std.specs.Prelude.{ℕ, ◌+◌, ◌-◌, ◌^◌, Bool, true, false, not, ◌&&◌, ◌==◌, if◌then◌else◌, Some, is_some, unwrap_or, bit_and, bit_or}
+use Rattle.std.specs.Prelude.{ℕ, ◌+◌, ◌-◌, ◌^◌, Bool, true, false, ◌==◌, if◌then◌else◌, Some, unwrap_or, bit_and, bit_or}
 use Rattle.std.specs.Int.{bit_at}
 use Rattle.sv39.specs.declared.paging.Spaces.{Spaces}
 use Rattle.sv39.specs.Satp.{satp_written}
@@ -28,11 +28,6 @@ sstatus_of csrs = bit_if csrs.interrupts 2 + bit_if csrs.interrupts_before 32 + 
 -- the bits that sie keeps: SSIE is bit 1, STIE bit 5 (Privileged 4.1.3)
 abbrev pub kept_sie : ℕ → ℕ
 kept_sie value = bit_if (has_bit_at value 1) 2 + bit_if (has_bit_at value 5) 32
-
--- Whether interrupts are on: SIE is 1, an interrupt is enabled in sie, and stvec is written (Privileged 3.1.9, 4.1.1, 4.1.3; that a
--- guest has written sie and stvec since its entry: profile).
-abbrev pub are_interrupts_on : GuestCsrs → Bool
-are_interrupts_on csrs = csrs.interrupts && (not (csrs.sie == 0) && is_some csrs.stvec)
 
 -- ---- reading
 

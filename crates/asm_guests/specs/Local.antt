@@ -14,23 +14,21 @@ use Rattle.rv64_instructions.specs.declared.csr.CsrSource.{CsrSource}
 use Rattle.rv64_instructions.specs.declared.instruction.Instruction.{Instruction}
 use Rattle.rv64_instructions.specs.declared.instruction.Instruction.TheVariants.{Compute, ComputeImmediate, Value, Branch, Jump, JumpRegister, Csr as OnCsr, ClearSip, Fence, Ebreak}
 use Rattle.asm_guests.specs.declared.local.Did.{Did}
-use Rattle.asm_guests.specs.declared.local.Did.TheVariants.{Stepped, Waits as Waited, Looped, Ended}
+use Rattle.asm_guests.specs.declared.local.Did.TheVariants.{Stepped, Waits as Waited, Ended}
 use Rattle.asm_guests.specs.declared.state.GuestState.{GuestState}
 use Rattle.asm_guests.specs.Csrs.{csr_done, csr_value, has_bit_at, is_board_csr, operand}
 use Rattle.asm_guests.specs.States.{passed, goes_to, known, knows, with_register, value_held}
 
--- what an instruction is for its guest: a local step, an operation of the board, a loop to itself, or the guest's end
+-- what an instruction is for its guest: a local step, an operation of the board, or the guest's end
 pub data LocalTurn : Type 0 where
   Steps : GuestState → LocalTurn
   Waits : GuestState → LocalTurn
-  Loops : GuestState → LocalTurn
   Ends : GuestState → LocalTurn
 
 -- the turn of an instruction that was done so far, with the state passed it
 abbrev pub local_turn_of : Did → GuestState → LocalTurn
 local_turn_of Stepped s = Steps s
 local_turn_of Waited s = Waits s
-local_turn_of Looped s = Loops s
 local_turn_of Ended s = Ends s
 
 -- the state passed an instruction that writes a register; the value is known if what it comes from is
@@ -41,15 +39,15 @@ puts rd n is_known s = passed (with_register s rd (record { value = n; is_known 
 abbrev pub address : GuestState → (base offset : ℕ) → ℕ
 address s base offset = low_sum w64 (value_held s base) offset
 
--- a branch, which may lead to itself
+-- a branch, which ends a guest if it leads to itself
 abbrev pub branches : Comparison → (rs1 rs2 to : ℕ) → GuestState → LocalTurn
 branches when rs1 rs2 to s =
-    if is_taken when (value_held s rs1) (value_held s rs2) then (if to == s.pc then Loops s else Steps (goes_to s to))
+    if is_taken when (value_held s rs1) (value_held s rs2) then (if to == s.pc then Ends s else Steps (goes_to s to))
     else Steps (passed s)
 
--- a jump that links, which may lead to itself
+-- a jump that links, which ends a guest if it leads to itself
 abbrev pub jumps : GuestState → (register to : ℕ) → LocalTurn
-jumps s rd to = if to == s.pc then Loops s else Steps (goes_to (with_register s rd (known (low_sum w64 s.pc 4))) to)
+jumps s rd to = if to == s.pc then Ends s else Steps (goes_to (with_register s rd (known (low_sum w64 s.pc 4))) to)
 
 -- a CSR instruction: a read alone, or a write to a CSR that the board doesn't have, is local
 abbrev pub csr_turn : Spaces → CsrHow → Csr → (register : ℕ) → CsrSource → GuestState → LocalTurn

@@ -1,11 +1,10 @@
--- What the reply to an operation makes of a guest (SBI 3; Privileged 3.1.9, 3.3.2, 4.1.1, 4.1.2, 4.1.7).
-use Rattle.std.specs.Prelude.{ℕ, ◌+◌, ◌-◌, ◌*◌, ◌%◌, ◌^◌, ◌==◌, ◌&&◌, true, false, if◌then◌else◌, Option, Some, None, unwrap_or}
+-- What the reply to an operation makes of a guest (SBI 3; Privileged 3.3.2, 4.1.1, 4.1.7).
+use Rattle.std.specs.Prelude.{ℕ, ◌-◌, ◌%◌, true, false, if◌then◌else◌, Option, Some, None}
 use Rattle.std.specs.Int.{cast_unsigned, w64}
 use Rattle.sv39.specs.Causes.{cause_number}
 use Rattle.sv39.specs.declared.paging.Spaces.{Spaces}
 use Rattle.board_terms.specs.declared.reply.Reply.{Reply}
 use Rattle.board_terms.specs.declared.reply.Reply.TheVariants as replies
-use Rattle.rv64_alu.specs.Functions.{low_sum}
 use Rattle.rv64_alu.specs.Immediates.{immediate}
 use Rattle.rv64_alu.specs.Loads.{loaded}
 use Rattle.rv64_instructions.specs.declared.instruction.Instruction.{Instruction}
@@ -16,7 +15,7 @@ use Rattle.asm_guests.specs.declared.csrs.GuestCsrs.{GuestCsrs}
 use Rattle.asm_guests.specs.declared.replies.Came.{Came}
 use Rattle.asm_guests.specs.declared.replies.Came.TheVariants as came_as
 use Rattle.asm_guests.specs.declared.state.GuestState.{GuestState}
-use Rattle.asm_guests.specs.Csrs.{csr_done, has_bit_at}
+use Rattle.asm_guests.specs.Csrs.{csr_done}
 use Rattle.asm_guests.specs.Local.{address, puts}
 use Rattle.asm_guests.specs.States.{passed, goes_to, known, with_register}
 
@@ -59,29 +58,6 @@ trap_by None cause value s = Strays NoHandler
 trap_by (Some stvec) cause value s =
     let later = at_handler (record s { csrs = trapped_csrs cause value s.pc s.csrs }) stvec in
     if s.csrs.interrupts then Traps later else GoesOn later
-
--- ---- interrupts
-
--- The code of the interrupt that is taken, by what sip and sie hold: a software interrupt comes before a timer interrupt
--- (Privileged 3.1.9, 4.1.7).
-abbrev pub interrupt_code : (pending sie : ℕ) → ℕ
-interrupt_code pending sie = if has_bit_at pending 1 && has_bit_at sie 1 then 1 else 5
-
--- The handler of an interrupt: with the mode vectored it is at stvec's base plus 4 times the code, else at the base
--- (Privileged 4.1.2).
-abbrev pub interrupt_handler : (stvec code : ℕ) → ℕ
-interrupt_handler stvec code =
-    if stvec % 4 == 1 then low_sum w64 (stvec - stvec % 4) (4 * code) else stvec - stvec % 4
-
--- the state at the handler of an interrupt of this code
-abbrev pub interrupted_by : (code : ℕ) → GuestState → GuestState
-interrupted_by code s =
-    goes_to (record s { csrs = trapped_csrs (2 ^ 63 + code) 0 s.pc s.csrs })
-    (interrupt_handler (unwrap_or s.csrs.stvec 0) code)
-
--- The state at the handler, by what sip holds.
-abbrev pub interrupt_taken : (pending : ℕ) → GuestState → GuestState
-interrupt_taken pending s = interrupted_by (interrupt_code pending s.csrs.sie) s
 
 -- the state when the operation that clears SIE of a trap is done
 abbrev pub trap_taken : GuestState → GuestState

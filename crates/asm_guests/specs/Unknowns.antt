@@ -1,8 +1,7 @@
 -- Instructions that an unknown value decides (profile).
-use Rattle.std.specs.Prelude.{ℕ, zero, suc, ◌+◌, Bool, false, not, ◌&&◌, ◌||◌, if◌then◌else◌, Option, Some, None}
+use Rattle.std.specs.Prelude.{ℕ, zero, suc, ◌+◌, Bool, false, not, ◌||◌, if◌then◌else◌, Option, Some, None}
 use Rattle.amo.specs.declared.name.AmoName.{AmoName}
 use Rattle.amo.specs.declared.name.AmoName.TheVariants.{Cas}
-use Rattle.board_terms.specs.declared.op.Op.{Op}
 use Rattle.board_terms.specs.declared.reply.Reply.{Reply}
 use Rattle.sbi_abi.specs.declared.call.Call.{Call}
 use Rattle.sbi_abi.specs.declared.call.Call.TheVariants as calls
@@ -17,10 +16,10 @@ use Rattle.rv64_instructions.specs.declared.instruction.Instruction.TheVariants 
 use Rattle.asm_guests.specs.declared.guest.AsmGuest.{AsmGuest}
 use Rattle.asm_guests.specs.declared.guest.AsmGuest.TheVariants.{Before, Trapping}
 use Rattle.asm_guests.specs.declared.state.GuestState.{GuestState}
-use Rattle.asm_guests.specs.Guests.{is_sip, most_steps, takes_interrupts}
+use Rattle.asm_guests.specs.Guests.{most_steps}
 use Rattle.asm_guests.specs.Listings.{Listing}
 use Rattle.asm_guests.specs.Local.{LocalTurn, local_turn}
-use Rattle.asm_guests.specs.Local.LocalTurn.{Ends, Loops, Steps, Waits}
+use Rattle.asm_guests.specs.Local.LocalTurn.{Ends, Steps, Waits}
 use Rattle.asm_guests.specs.Operations.{call_registers}
 use Rattle.asm_guests.specs.Replies.{Behind, reply_taken, trap_taken}
 use Rattle.asm_guests.specs.Replies.Behind.{GoesOn}
@@ -85,7 +84,6 @@ is_by_unknown instruction s = false
 abbrev pub unknown_by_turn : LocalTurn → (later : GuestState → Option ℕ) → Option ℕ
 unknown_by_turn (Steps s) later = later s
 unknown_by_turn (Waits s) later = None
-unknown_by_turn (Loops s) later = None
 unknown_by_turn (Ends s) later = None
 
 abbrev pub unknown_at : Listing → Option Instruction → GuestState → (later : GuestState → Option ℕ) → Option ℕ
@@ -110,14 +108,9 @@ abbrev pub unknown_passed : Listing → Option Instruction → GuestState → Re
 unknown_passed code None s reply = None
 unknown_passed code (Some instruction) s reply = unknown_behind code (reply_taken code.spaces instruction s reply)
 
--- the address of the first instruction behind a guest's next operation, with this reply, that an unknown value decides
-abbrev pub unknown_after_operation : Listing → AsmGuest → Reply → Option ℕ
-unknown_after_operation code (Before s) reply = unknown_passed code (code.instruction s.pc) s reply
-unknown_after_operation code (Trapping s) reply = first_unknown_from code (trap_taken s)
-unknown_after_operation code guest reply = None
-
 -- The address of the first instruction behind a guest's operation with this reply that an unknown value decides, up to its next
--- operation, which counts. Behind the operation that takes an interrupt comes another one at once.
-abbrev pub unknown_after : Listing → AsmGuest → Op → Reply → Option ℕ
-unknown_after code guest op reply =
-    if takes_interrupts code guest && is_sip op then None else unknown_after_operation code guest reply
+-- operation, which counts.
+abbrev pub unknown_after : Listing → AsmGuest → Reply → Option ℕ
+unknown_after code (Before s) reply = unknown_passed code (code.instruction s.pc) s reply
+unknown_after code (Trapping s) reply = first_unknown_from code (trap_taken s)
+unknown_after code guest reply = None

@@ -2,7 +2,7 @@
 use Rattle.std.specs.Prelude.{ℕ, suc, ◌+◌, ◌*◌, Bool, ◌==◌, if◌then◌else◌, List, [], ◌∷◌, ◌++◌, is_some, unwrap_or}
 use Rattle.asm_guests.specs.declared.csrs.GuestCsrs.{GuestCsrs}
 use Rattle.asm_guests.specs.declared.guest.AsmGuest.{AsmGuest}
-use Rattle.asm_guests.specs.declared.guest.AsmGuest.TheVariants.{Nowhere, Before, Trapping, Resting, Through, Astray}
+use Rattle.asm_guests.specs.declared.guest.AsmGuest.TheVariants.{Nowhere, Before, Trapping, Through, Astray}
 use Rattle.asm_guests.specs.declared.guest.Lost.{Lost}
 use Rattle.asm_guests.specs.declared.guest.Lost.TheVariants.{NoInstruction, Endless, NoHandler, UserMode}
 use Rattle.asm_guests.specs.declared.state.RegisterContent.{RegisterContent}
@@ -49,5 +49,4 @@ guest_words Nowhere = 0 ∷ []
 guest_words (Through registers) = 1 ∷ register_words 0 registers
 guest_words (Before s) = 2 ∷ guest_state_words s
 guest_words (Trapping s) = 3 ∷ guest_state_words s
-guest_words (Resting s) = 5 ∷ guest_state_words s
 guest_words (Astray lost at) = 4 ∷ lost_number lost ∷ at ∷ []

@@ -1,7 +1,7 @@
 //! CSRs of a guest.
 ghost use Rattle.std.specs.Prelude.{◌≡◌, ◌≤◌, ◌^◌};
 ghost use Rattle.sv39.specs.declared.paging.TheConstants.{ASID_BITS};
-ghost use Rattle.asm_guests.specs.Csrs.{are_interrupts_on, bit_if, csr_value, csr_written, has_bit_at, is_board_csr, kept_sie, sstatus_of, written_value};
+ghost use Rattle.asm_guests.specs.Csrs.{bit_if, csr_value, csr_written, has_bit_at, is_board_csr, kept_sie, sstatus_of, written_value};
 ghost use Rattle.asm_guests.specs.States.{entered_csrs};
 
 use rv64_instructions::{Csr, CsrHow};
@@ -49,13 +49,6 @@ impl GuestCsrs {
             stval: 0,
             sscratch: 0,
         }
-    }
-
-    /// Whether interrupts are on: SIE is 1, an interrupt is enabled in sie, and stvec is written.
-    pub(crate) fn are_interrupts_on(&self) -> bool
-        ensures { result ≡ are_interrupts_on self.now }
-    {
-        self.interrupts && self.sie != 0 && self.stvec.is_some()
     }
 
     /// The value of a CSR; stvec is 0 before it is written.

@@ -1,10 +1,10 @@
 //! Guests between two operations.
 ghost use Rattle.std.specs.Prelude.{◌≡◌};
-ghost use Rattle.asm_guests.specs.Guests.{after_instruction, after_interrupt, after_operation, at_end, at_entry, guest_after, interrupted, is_sip, looping, next_by, reads_sip, settled, takes_interrupts, without_instruction};
+ghost use Rattle.asm_guests.specs.Guests.{at_end, guest_after, after_instruction, at_entry, next_by, settled, without_instruction};
 
 use crate::local::{Did, step};
 use crate::operations::op_by;
-use crate::replies::{Came, take, take_interrupt, take_trap};
+use crate::replies::{Came, take, take_trap};
 use crate::state::{GuestState, RegisterContent, none_known};
 use board_terms::{Op, Reply};
 use rv64_instructions::Instruction;
@@ -59,8 +59,6 @@ pub enum AsmGuest {
     Before(GuestState),
     /// Before the operation that clears sstatus.SIE for a trap.
     Trapping(GuestState),
-    /// In a loop to itself, with interrupts on.
-    Resting(GuestState),
     /// Through. What its registers hold is kept if the program's guests keep them.
     Through([RegisterContent; 32]),
     /// Lost, at this address.
@@ -80,72 +78,9 @@ pub fn at_entry<C: Code>(code: &C, addr: u64, hart: u64, opaque: u64) -> AsmGues
     }
 }
 
-/// The guest behind an operation with this reply: it takes an interrupt, or did its next operation.
-pub fn guest_after<C: Code>(code: &C, guest: AsmGuest, op: Op, reply: Reply) -> AsmGuest
-    ensures { result ≡ guest_after (C.listing code.now) guest op reply }
-{
-    if takes_interrupts(code, &guest) && is_sip(op) {
-        after_interrupt(guest, reply)
-    } else {
-        after_operation(code, guest, reply)
-    }
-}
-
-/// Whether a guest takes an interrupt, once one comes. It takes none before an instruction that reads sip, since an interrupt
-/// begins with the same operation.
-pub fn takes_interrupts<C: Code>(code: &C, guest: &AsmGuest) -> bool
-    ensures { result ≡ takes_interrupts (C.listing code.now) guest.now }
-{
-    match guest {
-        AsmGuest::Before(state) => {
-            state.csrs.are_interrupts_on() && !reads_sip(code.instruction_at(state.pc))
-        }
-        AsmGuest::Resting(state) => state.csrs.are_interrupts_on(),
-        _ => false,
-    }
-}
-
-/// Whether an instruction, if there is one, reads sip.
-fn reads_sip(instruction: Option<Instruction>) -> bool
-    ensures { result ≡ reads_sip instruction }
-{
-    matches!(instruction, Some(Instruction::ReadSip { .. }))
-}
-
-/// Whether an operation reads sip.
-pub(crate) fn is_sip(op: Op) -> bool
-    ensures { result ≡ is_sip op }
-{
-    matches!(op, Op::ReadSip)
-}
-
-/// The guest that takes an interrupt, by the reply to a read of sip.
-fn after_interrupt(guest: AsmGuest, reply: Reply) -> AsmGuest
-    ensures { result ≡ after_interrupt guest reply }
-{
-    match reply {
-        Reply::Value(pending) => interrupted(guest, pending),
-        _ => guest,
-    }
-}
-
-/// The guest that takes an interrupt, where sip holds this.
-fn interrupted(guest: AsmGuest, pending: u64) -> AsmGuest
-    ensures { result ≡ interrupted pending guest }
-{
-    match guest {
-        AsmGuest::Before(state) | AsmGuest::Resting(state) => {
-            let mut state = state;
-            take_interrupt(&mut state, pending);
-            AsmGuest::Trapping(state)
-        }
-        _ => guest,
-    }
-}
-
-/// The guest behind its next operation, with this reply.
-fn after_operation<C: Code>(code: &C, guest: AsmGuest, reply: Reply) -> AsmGuest
-    ensures { result ≡ after_operation (C.listing code.now) guest reply }
+/// The guest behind an operation with this reply.
+pub fn guest_after<C: Code>(code: &C, guest: AsmGuest, reply: Reply) -> AsmGuest
+    ensures { result ≡ guest_after (C.listing code.now) guest reply }
 {
     match guest {
         AsmGuest::Before(state) => after_instruction(code, state, reply),
@@ -203,23 +138,11 @@ fn settle<C: Code>(code: &C, from: GuestState, most: u32) -> AsmGuest
         match step(&mut state, &instruction, code.spaces()) {
             Did::Stepped => {}
             Did::Waits => return AsmGuest::Before(state),
-            Did::Looped => return looping(code, &state),
             Did::Ended => return at_end(code, &state),
         }
         left -= 1;
     }
     AsmGuest::Astray(Lost::Endless, state.pc)
-}
-
-/// The guest in a loop to itself.
-fn looping<C: Code>(code: &C, state: &GuestState) -> AsmGuest
-    ensures { result ≡ looping (C.listing code.now) state.now }
-{
-    if state.csrs.are_interrupts_on() {
-        AsmGuest::Resting(*state)
-    } else {
-        at_end(code, state)
-    }
 }
 
 /// The guest in a state at whose address no instruction is.

@@ -12,7 +12,7 @@ mod unknowns;
 mod words;
 
 pub use csrs::GuestCsrs;
-pub use guest::{AsmGuest, Code, Lost, at_entry, guest_after, next_operation, takes_interrupts};
+pub use guest::{AsmGuest, Code, Lost, at_entry, guest_after, next_operation};
 pub use state::{GuestState, RegisterContent};
 pub use unknowns::{unknown_after, unknown_at_entry};
 pub use words::{put_guest_words, words_tell};

@@ -20,8 +20,6 @@ pub(crate) enum Did {
     Stepped,
     /// Nothing yet: it is an operation of the board.
     Waits,
-    /// A loop to itself.
-    Looped,
     /// The guest's end.
     Ended,
 }
@@ -86,7 +84,7 @@ pub(crate) fn address(state: &GuestState, base: Register, offset: i32) -> u64
     state.value(base).wrapping_add(immediate(offset))
 }
 
-/// A branch, which may lead to itself.
+/// A branch; one to itself, if it is taken, ends the guest.
 fn branch(state: &mut GuestState, when: Comparison, rs1: Register, rs2: Register, to: u64) -> Did
     ensures { local_turn_of result state.new ≡ branches when rs1 rs2 to state.old }
 {
@@ -94,18 +92,18 @@ fn branch(state: &mut GuestState, when: Comparison, rs1: Register, rs2: Register
         return pass(state);
     }
     if to == state.pc {
-        return Did::Looped;
+        return Did::Ended;
     }
     state.pc = to;
     Did::Stepped
 }
 
-/// A jump that links, which may lead to itself.
+/// A jump that links; one to itself ends the guest.
 fn jump(state: &mut GuestState, rd: Register, to: u64) -> Did
     ensures { local_turn_of result state.new ≡ jumps state.old rd to }
 {
     if to == state.pc {
-        return Did::Looped;
+        return Did::Ended;
     }
     let link = state.pc.wrapping_add(4);
     state.put(rd.number(), RegisterContent::known(link));

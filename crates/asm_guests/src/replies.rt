@@ -2,12 +2,11 @@
 ghost use Rattle.std.specs.Prelude.{◌≡◌, ◌≤◌, true};
 ghost use Rattle.sv39.specs.declared.paging.TheConstants.{ASID_BITS};
 ghost use Rattle.rv64_alu.specs.Immediates.{immediate};
-ghost use Rattle.asm_guests.specs.Replies.{access_by, call_returned, came, fault_by, interrupt_code, interrupt_handler, interrupt_taken, reply_taken, returned, sret, trap_by, trap_taken, trapped_csrs, value_taken};
+ghost use Rattle.asm_guests.specs.Replies.{access_by, reply_taken, call_returned, came, fault_by, returned, sret, trap_by, trap_taken, value_taken};
 ghost use Rattle.asm_guests.specs.Replies.Behind.{GoesOn};
 ghost use Rattle.asm_guests.specs.Local.{address, puts};
 ghost use Rattle.asm_guests.specs.States.{passed};
 
-use crate::csrs::has_bit_at;
 use crate::guest::Lost;
 use crate::local::{address, write_csr};
 use crate::state::{GuestState, RegisterContent};
@@ -147,60 +146,16 @@ fn trap(state: &mut GuestState, cause: u64, value: u64) -> Came
     let Some(stvec) = state.csrs.stvec else {
         return Came::Strays(Lost::NoHandler);
     };
-    note_trap(state, cause, value);
-    state.pc = stvec - stvec % 4;
-    if state.csrs.interrupts {
-        Came::Traps
-    } else {
-        Came::GoesOn
-    }
-}
-
-/// Writes what a trap writes into CSRs; SIE goes to 0 by an operation of its own.
-fn note_trap(state: &mut GuestState, cause: u64, value: u64)
-    ensures { state.new ≡ record state.old { csrs = trapped_csrs cause value state.old.pc state.old.csrs } }
-{
     state.csrs.interrupts_before = state.csrs.interrupts;
     state.csrs.from_supervisor = true;
     state.csrs.sepc = state.pc;
     state.csrs.scause = cause;
     state.csrs.stval = value;
-}
-
-/// The cause of an interrupt, without its code (Privileged 4.1.7).
-const INTERRUPT: u64 = 1 << 63;
-
-/// An interrupt, by what sip holds: the guest goes to its handler (Privileged 3.1.9, 4.1.1, 4.1.2, 4.1.7).
-pub(crate) fn take_interrupt(state: &mut GuestState, pending: u64)
-    ensures { state.new ≡ interrupt_taken pending state.old }
-{
-    let code = interrupt_code(pending, state.csrs.sie);
-    note_trap(state, INTERRUPT + code, 0);
-    state.pc = interrupt_handler(state.csrs.stvec.unwrap_or(0), code);
-}
-
-/// The code of the interrupt that is taken: a software interrupt comes before a timer interrupt.
-fn interrupt_code(pending: u64, sie: u64) -> u64
-    ensures code { result ≡ interrupt_code pending sie }
-    ensures small { result ≤ 5 }
-{
-    if has_bit_at(pending, 1) && has_bit_at(sie, 1) {
-        1
+    state.pc = stvec - stvec % 4;
+    if state.csrs.interrupts {
+        Came::Traps
     } else {
-        5
-    }
-}
-
-/// The handler of an interrupt, by the mode of stvec.
-fn interrupt_handler(stvec: u64, code: u64) -> u64
-    requires { code ≤ 5 }
-    ensures { result ≡ interrupt_handler stvec code }
-{
-    let base = stvec - stvec % 4;
-    if stvec % 4 == 1 {
-        base.wrapping_add(4 * code)
-    } else {
-        base
+        Came::GoesOn
     }
 }
 

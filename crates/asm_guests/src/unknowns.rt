@@ -1,15 +1,15 @@
 //! Instructions that an unknown value decides.
 ghost use Rattle.std.specs.Prelude.{◌≡◌, ◌≤◌};
 ghost use Rattle.asm_guests.specs.States.{entered};
-ghost use Rattle.asm_guests.specs.Unknowns.{argument_count, first_unknown, first_unknown_from, is_by_unknown, lacks, lacks_argument, lacks_call, lacks_for_amo, lacks_operand, unknown_after, unknown_after_operation, unknown_passed};
+ghost use Rattle.asm_guests.specs.Unknowns.{argument_count, first_unknown, first_unknown_from, is_by_unknown, lacks, lacks_argument, lacks_call, lacks_for_amo, lacks_operand, unknown_after, unknown_passed};
 
-use crate::guest::{AsmGuest, Code, MOST_STEPS, is_sip, takes_interrupts};
+use crate::guest::{AsmGuest, Code, MOST_STEPS};
 use crate::local::{Did, step};
 use crate::operations::call_registers;
 use crate::replies::{Came, take, take_trap};
 use crate::state::GuestState;
 use amo::AmoName;
-use board_terms::{Op, Reply};
+use board_terms::Reply;
 use rv64_instructions::{CsrSource, Instruction, Register};
 use sbi_abi::call::{BaseCall, HsmCall, RfenceCall};
 use sbi_abi::{Call, decode};
@@ -21,20 +21,9 @@ pub fn unknown_at_entry<C: Code>(code: &C, addr: u64, hart: u64, opaque: u64) ->
     first_unknown(code, GuestState::entered(addr, hart, opaque), MOST_STEPS)
 }
 
-/// The same behind a guest's operation with this reply: its next one, or that with which it takes an interrupt.
-pub fn unknown_after<C: Code>(code: &C, guest: &AsmGuest, op: Op, reply: Reply) -> Option<u64>
-    ensures { result ≡ unknown_after (C.listing code.now) guest.now op reply }
-{
-    if takes_interrupts(code, guest) && is_sip(op) {
-        None
-    } else {
-        unknown_after_operation(code, guest, reply)
-    }
-}
-
-/// The same behind a guest's next operation, with this reply.
-fn unknown_after_operation<C: Code>(code: &C, guest: &AsmGuest, reply: Reply) -> Option<u64>
-    ensures { result ≡ unknown_after_operation (C.listing code.now) guest.now reply }
+/// The same behind a guest's operation with this reply.
+pub fn unknown_after<C: Code>(code: &C, guest: &AsmGuest, reply: Reply) -> Option<u64>
+    ensures { result ≡ unknown_after (C.listing code.now) guest.now reply }
 {
     match guest {
         AsmGuest::Before(state) => unknown_passed(code, *state, reply),
@@ -75,7 +64,7 @@ fn first_unknown<C: Code>(code: &C, from: GuestState, most: u32) -> Option<u64>
         }
         match step(&mut state, &instruction, code.spaces()) {
             Did::Stepped => {}
-            Did::Waits | Did::Looped | Did::Ended => return None,
+            Did::Waits | Did::Ended => return None,
         }
         left -= 1;
     }

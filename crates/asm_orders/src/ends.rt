@@ -118,11 +118,7 @@ impl FinalState for Zeros<'_> {
     } };
 
     fn register(&self, hart: u64, _number: u8) -> Option<u64> {
-        if hart < self.harts {
-            Some(0)
-        } else {
-            None
-        }
+        if hart < self.harts { Some(0) } else { None }
     }
 
     fn word(&self, address: u64) -> Option<u64> {

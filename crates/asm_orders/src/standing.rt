@@ -30,22 +30,16 @@ pub(crate) fn standing<C: Code>(
     Ok(all)
 }
 
-/// Whether a hart is STOPPED, or is STARTED with a guest that is through, or that waits for an interrupt of which none comes.
+/// Whether a hart is STOPPED, or is STARTED with a guest that is through.
 fn is_done(board: &Board, h: u64, guest: &AsmGuest) -> bool
     requires { h < board.now.opening.config.harts }
 {
     match board.state(h) {
         HartState::Stopped => true,
-        HartState::Started => { board.outstanding(h).is_none() && is_over(guest, board.wake(h)) }
-        _ => false,
-    }
-}
-
-/// Whether a guest has nothing left to do, if its hart has this wake.
-fn is_over(guest: &AsmGuest, wake: bool) -> bool {
-    match guest {
-        AsmGuest::Nowhere | AsmGuest::Through(_) => true,
-        AsmGuest::Resting(_) => !wake,
+        HartState::Started => {
+            board.outstanding(h).is_none()
+                && matches!(guest, AsmGuest::Nowhere | AsmGuest::Through(_))
+        }
         _ => false,
     }
 }
@@ -88,9 +82,7 @@ pub(crate) fn put_guest<C: Code>(
     match guest {
         AsmGuest::Nowhere => out.push_str("not entered"),
         AsmGuest::Through(_) => out.push_str("through"),
-        AsmGuest::Before(state) | AsmGuest::Trapping(state) | AsmGuest::Resting(state) => {
-            put_source(search, state.pc, out)
-        }
+        AsmGuest::Before(state) | AsmGuest::Trapping(state) => put_source(search, state.pc, out),
         AsmGuest::Astray(lost, at) => put_lost(search, *lost, *at, out),
     }
 }

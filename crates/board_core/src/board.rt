@@ -239,26 +239,9 @@ impl Board {
         self.view().refusal(actor, op)
     }
 
-    /// Performs and records an access of hart `h` that isn't refused, and returns the reply. Each kind of access has code of
-    /// its own, so the kind is told once.
+    /// Performs and records an access of hart `h` that isn't refused, and returns the reply.
     #[inline(always)]
     fn access_step(&mut self, h: u64, va: u64, what: Access) -> Reply
-        requires unrefused { first_refusal self.old.opening self.old.past (Hart h) (access_op va what) ≡ None }
-        requires reach { IsReach va what }
-        ensures answer { Ok result ≡ answer self.old.opening self.old.past (Hart h) (access_op va what) }
-        ensures after { self.new ≡ stepped self.old (Hart h) (access_op va what) }
-    {
-        match what {
-            Access::Load => self.access_as(h, va, Access::Load),
-            Access::Store(value) => self.access_as(h, va, Access::Store(value)),
-            Access::Fetch => self.access_as(h, va, Access::Fetch),
-            Access::Amo(at, amo) => self.access_as(h, va, Access::Amo(at, amo)),
-        }
-    }
-
-    /// The same of one kind, which the caller knows.
-    #[inline(always)]
-    fn access_as(&mut self, h: u64, va: u64, what: Access) -> Reply
         requires unrefused { first_refusal self.old.opening self.old.past (Hart h) (access_op va what) ≡ None }
         requires reach { IsReach va what }
         ensures answer { Ok result ≡ answer self.old.opening self.old.past (Hart h) (access_op va what) }

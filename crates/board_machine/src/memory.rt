@@ -138,7 +138,6 @@ impl Memory {
     }
 
     /// Performs an access of hart `h` to a virtual address; what it fills has this date.
-    #[inline(always)]
     pub(crate) fn access(&mut self, date: u64, h: u64, va: u64, what: Access) -> Accessed
         requires { CanFill self.old h }
         ensures result { result.result

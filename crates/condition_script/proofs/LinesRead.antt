@@ -5,7 +5,7 @@ use Rattle.std.specs.Borrow.{Bor}
 use Rattle.std.specs.Str.Lines.{lines}
 use Rattle.std.proofs.lemmas.Bool.{eqb-true}
 use Rattle.std.proofs.lemmas.List.{append-nil}
-use Rattle.condition_script.specs.Grammar.{HasCondition, IsAsking, IsPlain, IsSilent, ReadsConditions, ConditionValue, condition_value}
+use Rattle.condition_script.specs.Grammar.{HasCondition, IsAsking, IsShebang, IsSilent, ReadsConditions, ConditionValue, condition_value}
 use Rattle.condition_script.specs.FirstFault.{IsFaulty, IsUnreadable}
 use Rattle.condition_script.specs.Inside.Reading.{HasRead, IsPut}
 use Rattle.condition_script.proofs.Asked.{map_push, one_more}
@@ -50,7 +50,7 @@ rest_read bytes rest n found none read = all_read bytes n found (subst (λ r. Ha
 
 -- ---- one line
 
-pub silent_if : (n : ℕ) (text : List ℕ) (found : Option (Bor (List ℕ))) → MatchOption found (IsPlain n text) (λ rest. IsAsking n text rest.now)
+pub silent_if : (n : ℕ) (text : List ℕ) (found : Option (Bor (List ℕ))) → MatchOption found (IsShebang n text) (λ rest. IsAsking n text rest.now)
     → MatchOption found (IsSilent n text) (λ rest. IsAsking n text rest.now)
-silent_if n text None plain = λ rest asking. asking.not_plain plain
+silent_if n text None shebang = λ rest asking. asking.no_shebang shebang
 silent_if n text (Some rest) is = is

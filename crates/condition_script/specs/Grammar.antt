@@ -319,19 +319,6 @@ asked_words rest = words_in rest ++ mark_word (from_comment rest)
 abbrev pub IsShebang : (n : ℕ) → List ℕ → Type 0
 IsShebang n text = (n ≡ 1) × ((rest : List ℕ) × (text ≡ codes "#!/" ++ rest))
 
--- the words of `any tlb`, which asks nothing, but says that the board has any TLBs (Privileged 4.2.1, 4.3.2)
-abbrev pub is_any_tlb : List (List ℕ) → Bool
-is_any_tlb (first ∷ second ∷ []) = bytes_eq (codes "any") first && bytes_eq (codes "tlb") second
-is_any_tlb words = false
-
--- whether a text is `#! any tlb`, blanks and a comment behind it aside
-abbrev pub says_any_tlb : List ℕ → Bool
-says_any_tlb text = is_marked (behind_blanks text) && is_any_tlb (asked_words (drop 2 (behind_blanks text)))
-
--- whether some line of a text is
-abbrev pub has_any_tlb : List ℕ → Bool
-has_any_tlb bytes = list_any says_any_tlb (lines bytes)
-
 -- A text begins with `#!`, blanks aside, and the rest is a condition's. Or its comment begins so behind other words; then the rest begins
 -- with the comment, and is none.
 abbrev pub BeginsAsking : (text rest : List ℕ) → Type 0
@@ -339,16 +326,12 @@ BeginsAsking text rest =
     (behind_blanks text ≡ codes "#!" ++ rest)
     ⊎ (((other : List ℕ) → behind_blanks text ≡ codes "#!" ++ other → ⊥) × (is_marked (from_comment text) ≡ true) × (rest ≡ from_comment text))
 
--- Line n has no condition, though it has a `#!`: it names the program that runs the script, or says `any tlb`.
-abbrev pub IsPlain : (n : ℕ) → List ℕ → Type 0
-IsPlain n text = IsShebang n text ⊎ (says_any_tlb text ≡ true)
-
 -- Line n has a `#!`, and the rest is its condition's. A comment such as `# !never` begins otherwise.
 pub record IsAsking (n : ℕ) (text rest : List ℕ) : Type 0 where
   pub begins : BeginsAsking text rest
-  pub not_plain : IsPlain n text → ⊥
+  pub no_shebang : IsShebang n text → ⊥
 
--- Line n asks nothing: it doesn't begin with `#!`, or is plain.
+-- Line n asks nothing: it doesn't begin with `#!`, or names the program that runs the script.
 abbrev pub IsSilent : (n : ℕ) → List ℕ → Type 0
 IsSilent n text = (rest : List ℕ) → IsAsking n text rest → ⊥
 

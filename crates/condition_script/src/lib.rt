@@ -1,7 +1,6 @@
 //! Reads a script's conditions: its comments that begin with `#!` (profile).
 #![tactic(auto)]
 
-mod any_tlb;
 mod asking;
 mod beginnings;
 mod columns;
@@ -17,7 +16,6 @@ mod reading;
 mod rules;
 mod words;
 
-pub use any_tlb::any_tlb_line;
 pub use faults::{Fault, Wrong};
 pub use items::Item;
 pub use keywords::Keyword;

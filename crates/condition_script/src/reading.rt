@@ -1,10 +1,9 @@
 //! The conditions of a script's text, read from its comments.
 ghost use Rattle.std.specs.Prelude.{◌≡◌, ◌≢◌, ◌↔◌, ◌⊎◌, ℕ, IfErr, IfOk, List, MatchOption, MatchResult, false, map, true};
 ghost use Rattle.condition_script.specs.FirstFault.{IsFaultColumn, IsFaulty, IsUnreadable};
-ghost use Rattle.condition_script.specs.Grammar.{BeginsAsking, IsAsking, IsPlain, IsShebang, IsSilent, ReadsConditions, ConditionValue, asked_words, condition_value, from_comment, is_marked};
+ghost use Rattle.condition_script.specs.Grammar.{BeginsAsking, IsAsking, IsShebang, IsSilent, ReadsConditions, ConditionValue, asked_words, condition_value, from_comment, is_marked};
 ghost use Rattle.condition_script.specs.Inside.Reading.{IsLineRead, IsPut, texts};
 
-use crate::any_tlb::says_any_tlb;
 use crate::asking::asked_rule;
 use crate::beginnings::longest_beginning;
 use crate::columns::{behind_blanks, column_behind, from_comment, is_marked};
@@ -25,8 +24,8 @@ pub struct Condition {
     pub rule: Rule,
 }
 
-/// The conditions of a script's text: its lines that begin with `#!`, blanks aside. `#!/` on the first line is none, nor is
-/// `#! any tlb`. A `#!` behind other words is a fault.
+/// The conditions of a script's text: its lines that begin with `#!`, blanks aside. `#!/` on the first line is none. A `#!` behind other
+/// words is a fault.
 ///
 /// # Errors
 ///
@@ -137,28 +136,21 @@ fn asked(line: u64, text: &[u8]) -> Option<&[u8]>
     ensures { MatchOption result (IsSilent line text.now) (λ rest. IsAsking line text.now rest.now) }
 {
     match asked_in(text) {
-        Some(rest) => unless_plain(line, text, rest),
+        Some(rest) => unless_shebang(line, text, rest),
         None => None,
     }
 }
 
-/// What is asked behind a `#!`, unless the line names the program that runs the script, or says `any tlb`.
-fn unless_plain<'a>(line: u64, text: &[u8], rest: &'a [u8]) -> Option<&'a [u8]>
+/// What is asked behind a `#!`, unless it names the program that runs the script.
+fn unless_shebang<'a>(line: u64, text: &[u8], rest: &'a [u8]) -> Option<&'a [u8]>
     requires { BeginsAsking text.now rest.now }
-    ensures { MatchOption result (IsPlain line text.now) (λ found. IsAsking line text.now found.now) }
+    ensures { MatchOption result (IsShebang line text.now) (λ found. IsAsking line text.now found.now) }
 {
-    if is_plain(line, text) {
+    if is_shebang(line, text) {
         None
     } else {
         Some(rest)
     }
-}
-
-/// Whether this line names the program that runs the script, or says `any tlb`.
-fn is_plain(line: u64, text: &[u8]) -> bool
-    ensures { (result ≡ true) ↔ IsPlain line text.now }
-{
-    is_shebang(line, text) || says_any_tlb(text)
 }
 
 /// Whether this line names the program that runs the script.

@@ -9,8 +9,8 @@ mod rules;
 mod vacuity;
 
 pub use condition_script::{
-    Condition, Ending, Fault, Item, Keyword, Mark, Name, Pattern, Rule, Wrong, any_tlb_line,
-    conditions, one_reading,
+    Condition, Ending, Fault, Item, Keyword, Mark, Name, Pattern, Rule, Wrong, conditions,
+    one_reading,
 };
 pub use endings::ending;
 pub use misfits::{Misfit, first_misfit, first_misfit_with};

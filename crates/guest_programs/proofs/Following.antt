@@ -1,6 +1,6 @@
 -- A guest goes on by what its hart does.
-use Rattle.std.proofs.Common.{◌≡◌, ◌≢◌, ◌↔◌, ◌<◌, ◌==◌, ℕ, length, get_or, set, inl, inr, Bool, true, false, List, [], ◌∷◌, ◌++◌, refl, sym, ap, subst, ◌∙◌, append_assoc, append-nil}
-use Rattle.std.specs.Prelude.{Option, Some}
+use Rattle.std.proofs.Common.{◌≡◌, ◌≢◌, ◌↔◌, ◌<◌, ◌==◌, ℕ, length, get_or, set, inl, inr, true, false, List, [], ◌∷◌, ◌++◌, refl, sym, ap, subst, ◌∙◌, append_assoc, append-nil}
+use Rattle.std.specs.Prelude.{Option, Some, None}
 use Rattle.std.proofs.lemmas.Bool.{cases_Bool, eq-eqb, eqb-false, eqb-true}
 use Rattle.std.proofs.lemmas.List.{get_or-set_other, get_or-set_same, length-set}
 use Rattle.board_terms.specs.declared.op.Actor.TheVariants.{Hart}
@@ -8,9 +8,8 @@ use Rattle.board_terms.specs.declared.op.Op.{Op}
 use Rattle.board_terms.specs.declared.reply.Reply.{Reply}
 use Rattle.board_terms.specs.declared.reply.Reply.TheVariants.{Ret, Waiting, Gone, Entry, Value, Fault, Served, Moved, Done}
 use Rattle.board_core.specs.History.{Event}
-use Rattle.guest_programs.specs.Guests.{AreNext, Did, Entered, IsAt, IsBehind, IsOffered, Meaning, Next, Offer, Rest, did, did_after, entry_after, is_guest, last_entry, meaning_by, meaning_of, offer_for}
+use Rattle.guest_programs.specs.Guests.{AreNext, Did, Entered, IsAt, IsBehind, Meaning, Next, Rest, did, did_after, entry_after, is_guest, last_entry, meaning_by, meaning_of, next_for}
 use Rattle.guest_programs.specs.Guests.Meaning.{Does, Enters, Still}
-use Rattle.guest_programs.specs.Ends.{IsOver}
 use Rattle.guest_programs.specs.Places.{AllFollowed, IsFollowed, IsFollowedTo}
 use Rattle.guest_programs.specs.declared.found_end.Followed.{Followed}
 use Rattle.guest_programs.specs.declared.found_end.Followed.TheVariants.{To, Strayed}
@@ -54,7 +53,7 @@ behind-entry rest guests entry is more = is more ∙ ap (guests entry) (sym (app
 behind-one : (rest now : Rest) (guests : Next) (entry : Option Entered) (before : Did) (one : Op × Reply) → IsBehind rest guests entry before
     → ((more : Did) → now more ≡ rest (more ++ one ∷ [])) → IsBehind now guests entry (one ∷ before)
 behind-one rest now guests entry before one at is more =
-    is more ∙ at (more ++ one ∷ []) ∙ ap (offer_for guests entry) (append_assoc more (one ∷ []) before)
+    is more ∙ at (more ++ one ∷ []) ∙ ap (next_for guests entry) (append_assoc more (one ∷ []) before)
 
 module _ (guests : Next) (past : List Event) (h : ℕ) (e : Event) (by : e.actor ≡ Hart h) where
   -- so by what an event means
@@ -94,28 +93,30 @@ module _ (guests : Next) (past : List Event) (h : ℕ) (e : Event) (by : e.actor
     followed-same found other none is = turned (λ entry before. IsFollowedTo rest_at guests entry before found) Still (turn-still e.op e.reply other none) is
 
 module _ {P : Type 0} (rest_at : P → Rest) (guests : Next) (entry : Option Entered) (before : Did) (op : Op) (reply : Reply) where
-  -- it does what it may do next
-  pub followed_offered : (place now : P) → IsFollowedTo rest_at guests entry before (To place) → IsOffered (rest_at place []) op
+  -- it does its next operation
+  pub followed_next : (place now : P) → IsFollowedTo rest_at guests entry before (To place) → rest_at place [] ≡ Some op
       → ((more : Did) → rest_at now more ≡ rest_at place (more ++ (op, reply) ∷ [])) → IsFollowedTo rest_at guests entry ((op, reply) ∷ before) (To now)
-  followed_offered place now at offered is =
-      (behind-one (rest_at place) (rest_at now) guests entry before (op, reply) at.0 is, (subst (λ (offer : Offer). IsOffered offer op) (at.0 []) offered, at.1))
+  followed_next place now at next is =
+      (behind-one (rest_at place) (rest_at now) guests entry before (op, reply) at.0 is, (sym (at.0 []) ∙ next, at.1))
 
-  -- something else
-  pub followed_other : (place : P) → IsFollowedTo rest_at guests entry before (To place) → ¬ IsOffered (rest_at place []) op
+  -- another one
+  pub followed_other : (place : P) (next : Op) → IsFollowedTo rest_at guests entry before (To place) → rest_at place [] ≡ Some next → next ≢ op
       → IsFollowedTo rest_at guests entry ((op, reply) ∷ before) Strayed
-  followed_other place at other did = other (subst (λ (offer : Offer). IsOffered offer op) (sym (at.0 [])) did.0)
+  followed_other place next at is other did = other (let t = sym is ∙ at.0 [] ∙ did.0 in cc)
+
+  -- one where it has none
+  pub followed_over : (place : P) → IsFollowedTo rest_at guests entry before (To place) → rest_at place [] ≡ None
+      → IsFollowedTo rest_at guests entry ((op, reply) ∷ before) Strayed
+  followed_over place at none did = let t = sym none ∙ at.0 [] ∙ did.0 in cc
 
   -- and one behind another that wasn't next
   pub strayed_before : IsFollowedTo rest_at guests entry before Strayed → IsFollowedTo rest_at guests entry ((op, reply) ∷ before) Strayed
   strayed_before strayed did = strayed did.1
 
--- a guest is through exactly where it has nothing left to do
-pub through-to : {P : Type 0} (rest_at : P → Rest) (guests : Next) (entry : Option Entered) (before : Did) (place : P) (wake : Bool) → IsFollowedTo rest_at guests entry before (To place)
-    → IsOver (rest_at place []) wake ↔ (AreNext guests entry before × IsOver (offer_for guests entry before) wake)
-through-to rest_at guests entry before place wake at = (
-  (λ over. (at.1, subst (λ (offer : Offer). IsOver offer wake) (at.0 []) over)),
-  (λ both. subst (λ (offer : Offer). IsOver offer wake) (sym (at.0 [])) both.1),
-)
+-- a guest is through exactly where it has none
+pub through-to : {P : Type 0} (rest_at : P → Rest) (guests : Next) (entry : Option Entered) (before : Did) (place : P) → IsFollowedTo rest_at guests entry before (To place)
+    → (rest_at place [] ≡ None) ↔ (AreNext guests entry before × (next_for guests entry before ≡ None))
+through-to rest_at guests entry before place at = ((λ none. (at.1, sym (at.0 []) ∙ none)), (λ both. at.0 [] ∙ both.1))
 
 -- ---- of all harts
 

@@ -1,14 +1,13 @@
 -- A hart that is STARTED, outside of a fence call, is quiet exactly where its guest is through.
-use Rattle.std.proofs.Common.{◌≡◌, ◌↔◌, ℕ, Bool, true, false, List, refl, sym, subst, ◌∙◌, inl, inr}
+use Rattle.std.proofs.Common.{◌≡◌, ◌↔◌, ℕ, Bool, true, false, List, refl, sym, ◌∙◌, inl, inr}
 use Rattle.std.specs.Prelude.{Option, Some, None, is_some, not}
 use Rattle.hsm.specs.declared.hart.HartState.TheVariants.{Started}
 use Rattle.board_core.specs.Fences.{outstanding}
 use Rattle.board_core.specs.History.{Event}
-use Rattle.board_core.specs.Interrupts.{wake}
 use Rattle.board_core.specs.Opening.{Opening}
 use Rattle.board_core.specs.States.{state}
-use Rattle.guest_programs.specs.Ends.{IsOver, IsQuiet}
-use Rattle.guest_programs.specs.Guests.{HasFollowed, Next, offer_of}
+use Rattle.guest_programs.specs.Ends.{IsQuiet}
+use Rattle.guest_programs.specs.Guests.{HasFollowed, Next, next_op}
 
 none-is : {A : Type 0} (o : Option A) → is_some o ≡ false → o ≡ None
 none-is None is = refl
@@ -20,19 +19,13 @@ none-told None r false told same = absurd (let t = told in cc)
 none-told (Some x) r true told same = absurd (let t = told in cc)
 none-told (Some x) r false told same = ((λ is. absurd (let t = is in cc)), (λ is. absurd (let t = same ∙ is in cc)))
 
-pub is-quiet : (o : Opening) (past : List Event) (guests : Next) (h : ℕ) (is_through awake : Bool) (call : Option (List ℕ))
-    → state o past h ≡ Started → is_some call ≡ false → call ≡ outstanding o past h → awake ≡ wake o past h
-    → (is_through ≡ true) ↔ (HasFollowed guests past h × IsOver (offer_of guests past h) awake) → (is_through ≡ true) ↔ IsQuiet o past guests h
-is-quiet o past guests h is_through awake call started none called woken tells =
-    let over = λ (b : Bool). IsOver (offer_of guests past h) b in (
-      (λ yes. let both = tells.0 yes in inr (record {
-        started = started;
-        outside = sym called ∙ none-is call none;
-        followed = both.0;
-        over = subst over woken both.1;
-      })),
-      (λ quiet. elim quiet [
-        | inl stopped ↦ absurd (let t = sym started ∙ stopped in cc)
-        | inr through ↦ tells.1 (through.followed, subst over (sym woken) through.over)
-      ]),
-    )
+pub is-quiet : (o : Opening) (past : List Event) (guests : Next) (h : ℕ) (is_through : Bool) (call : Option (List ℕ))
+    → state o past h ≡ Started → is_some call ≡ false → call ≡ outstanding o past h
+    → (is_through ≡ true) ↔ (HasFollowed guests past h × (next_op guests past h ≡ None)) → (is_through ≡ true) ↔ IsQuiet o past guests h
+is-quiet o past guests h is_through call started none called tells = (
+  (λ yes. let both = tells.0 yes in inr (record { started = started; outside = sym called ∙ none-is call none; followed = both.0; over = both.1 })),
+  (λ quiet. elim quiet [
+    | inl stopped ↦ absurd (let t = sym started ∙ stopped in cc)
+    | inr through ↦ tells.1 (through.followed, through.over)
+  ]),
+)

@@ -5,7 +5,7 @@ use Rattle.board_core.specs.History.{Event}
 use Rattle.guest_script.specs.Grammar.{Guest}
 use Rattle.guest_programs.specs.declared.block_guests.BlockPlace.{BlockPlace}
 use Rattle.guest_programs.specs.declared.block_guests.BlockPlace.TheVariants.{At, Idle}
-use Rattle.guest_programs.specs.Guests.{Did, Entered, Next, Rest, did, no_interrupts, nothing}
+use Rattle.guest_programs.specs.Guests.{Did, Entered, Next, Rest, did}
 
 -- the operations of the block at an address; empty if there is no such block
 abbrev pub block_at : List Guest → ℕ → List Op
@@ -13,9 +13,9 @@ block_at [] addr = []
 block_at (block ∷ blocks) addr = if block.addr == addr then block.ops else block_at blocks addr
 
 -- What such guests do: the next operation is the one in the entry's block that follows as many as were done since the
--- entry. They take no interrupts.
+-- entry.
 abbrev pub in_blocks : List Guest → Next
-in_blocks blocks = λ entry before. no_interrupts (slice_get (block_at blocks entry.addr) (length before))
+in_blocks blocks = λ entry before. slice_get (block_at blocks entry.addr) (length before)
 
 -- ---- the same in terms of whole blocks
 
@@ -47,8 +47,8 @@ ops_found blocks (Some k) = ops_at blocks k
 
 -- What a guest of blocks does from a place on: the rest of its block.
 abbrev pub rest_in : List Guest → BlockPlace → Rest
-rest_in blocks Idle = nothing
-rest_in blocks (At block op) = λ more. no_interrupts (slice_get (ops_at blocks block) (op + length more))
+rest_in blocks Idle = λ more. None
+rest_in blocks (At block op) = λ more. slice_get (ops_at blocks block) (op + length more)
 
 -- The words of a place: 0 if it is in no block, else 1 and the indices of the block and the operation.
 abbrev pub place_words : BlockPlace → List ℕ

@@ -1,9 +1,8 @@
 -- Ends of runs, from their records and programs (profile).
-use Rattle.std.specs.Prelude.{◌≡◌, ◌≢◌, ◌⊎◌, ℕ, ◌<◌, Bool, true, false, List, length, None}
+use Rattle.std.specs.Prelude.{◌≡◌, ◌≢◌, ◌⊎◌, ℕ, ◌<◌, true, false, List, length, None}
 use Rattle.hsm.specs.declared.hart.HartState.TheVariants.{Started, Stopped}
 use Rattle.board_core.specs.Fences.{outstanding}
 use Rattle.board_core.specs.History.{Event}
-use Rattle.board_core.specs.Interrupts.{wake}
 use Rattle.board_core.specs.Opening.{Opening}
 use Rattle.board_core.specs.Resets.{is_off}
 use Rattle.board_core.specs.States.{state}
@@ -11,19 +10,15 @@ use Rattle.guest_programs.specs.declared.ends.End.{End}
 use Rattle.guest_programs.specs.declared.ends.End.TheVariants.{GateLimit, Off, HistoryFull, Quiet, Stuck}
 use Rattle.guest_programs.specs.declared.met.Met.{Met}
 use Rattle.guest_programs.specs.declared.met.Met.TheVariants.{FullHistory, ClosedGate}
-use Rattle.guest_programs.specs.Guests.{HasFollowed, Next, Offer, interrupt_by, offer_of}
+use Rattle.guest_programs.specs.Guests.{HasFollowed, Next, next_op}
 
--- A guest has nothing left to do: no next operation, and no interrupt to take.
-abbrev pub IsOver : Offer → (wake : Bool) → Type 0
-IsOver offer wake = (offer.next ≡ None) × (interrupt_by offer.takes_interrupts wake ≡ None)
-
--- A hart is through: it is STARTED and in no fence call; since its last entry its guest did only what it may do next,
--- and has nothing left to do.
+-- A hart is through: it is STARTED and in no fence call; since its last entry its guest did only its next operations,
+-- and has none left.
 pub record IsThrough (o : Opening) (past : List Event) (guests : Next) (h : ℕ) : Type 0 where
   pub started : state o past h ≡ Started
   pub outside : outstanding o past h ≡ None
   pub followed : HasFollowed guests past h
-  pub over : IsOver (offer_of guests past h) (wake o past h)
+  pub over : next_op guests past h ≡ None
 
 -- A hart that is STOPPED, or through, is quiet.
 abbrev pub IsQuiet : Opening → List Event → Next → ℕ → Type 0

@@ -1,13 +1,11 @@
--- What a hart's guest did, and what it may do next (profile).
-use Rattle.std.specs.Prelude.{◌≡◌, ◌⊎◌, ◌&&◌, ℕ, Bool, true, false, if◌then◌else◌, List, [], ◌∷◌, ◌++◌, Option, Some, None}
+-- What a hart's guest did, and what it does next (profile).
+use Rattle.std.specs.Prelude.{◌≡◌, ℕ, Bool, true, false, if◌then◌else◌, List, [], ◌∷◌, ◌++◌, Option, Some, None}
 use Rattle.board_terms.specs.declared.op.Op.{Op}
-use Rattle.board_terms.specs.declared.op.Op.TheVariants.{Poll, Serve, Advance, Tick, ReadSip}
+use Rattle.board_terms.specs.declared.op.Op.TheVariants.{Poll, Serve, Advance, Tick}
 use Rattle.board_terms.specs.declared.reply.Reply.{Reply}
 use Rattle.board_terms.specs.declared.reply.Reply.TheVariants.{Entry}
 use Rattle.board_core.specs.Course.{is_hart}
 use Rattle.board_core.specs.History.{Event}
-use Rattle.board_core.specs.Interrupts.{wake}
-use Rattle.board_core.specs.Opening.{Opening}
 
 -- Whether an operation is a guest's: neither the firmware's nor the clock's.
 abbrev pub is_guest : Op → Bool
@@ -64,68 +62,38 @@ did (e ∷ past) h = did_after (meaning_of h e) (did past h)
 
 -- ---- what guests do
 
--- What a guest may do: its next operation, if there is one, or take an interrupt.
-pub record Offer : Type 0 where
-  pub next : Option Op
-  pub takes_interrupts : Bool
-
--- what a guest may do that takes no interrupts: its next operation alone
-abbrev pub no_interrupts : Option Op → Offer
-no_interrupts next = record { next = next; takes_interrupts = false }
-
--- The guests' program: what each may do next, by its entry and the operations since.
+-- The guests' program: the next operation, if there is one, by the entry and the operations since.
 abbrev pub Next : Type 0
-Next = Entered → Did → Offer
+Next = Entered → Did → Option Op
 
--- what a guest may do next; nothing if its hart was never entered
-abbrev pub offer_for : Next → Option Entered → Did → Offer
-offer_for guests None before = no_interrupts None
-offer_for guests (Some entry) before = guests entry before
-
--- What hart h's guest may do next.
-abbrev pub offer_of : Next → List Event → ℕ → Offer
-offer_of guests past h = offer_for guests (last_entry past h) (did past h)
+-- the next operation of a guest; none if its hart was never entered
+abbrev pub next_for : Next → Option Entered → Did → Option Op
+next_for guests None before = None
+next_for guests (Some entry) before = guests entry before
 
 -- The next operation of hart h's guest.
 abbrev pub next_op : Next → List Event → ℕ → Option Op
-next_op guests past h = (offer_of guests past h).next
+next_op guests past h = next_for guests (last_entry past h) (did past h)
 
--- The operation with which a guest takes an interrupt: it reads sip, and so learns which interrupts are pending. The hart
--- must have wake: a pending interrupt is enabled in sie (Privileged 3.1.9; that it begins with this operation: profile).
-abbrev pub interrupt_by : (takes_interrupts wake : Bool) → Option Op
-interrupt_by takes_interrupts wake = if takes_interrupts && wake then Some ReadSip else None
-
--- The operation with which hart h's guest takes an interrupt, if one comes.
-abbrev pub interrupt_op : Opening → Next → List Event → ℕ → Option Op
-interrupt_op o guests past h = interrupt_by (offer_of guests past h).takes_interrupts (wake o past h)
-
--- An operation is a guest's next one, or takes an interrupt.
-abbrev pub IsOffered : Offer → Op → Type 0
-IsOffered offer op = (offer.next ≡ Some op) ⊎ ((offer.takes_interrupts ≡ true) × (op ≡ ReadSip))
-
--- Each of these operations was the guest's next one at its time, or took an interrupt.
+-- Each of these operations was the guest's next one at its time.
 abbrev pub AreNext : Next → Option Entered → Did → Type 0
 AreNext guests entry [] = Unit {0}
-AreNext guests entry (one ∷ before) = IsOffered (offer_for guests entry before) one.0 × AreNext guests entry before
+AreNext guests entry (one ∷ before) = (next_for guests entry before ≡ Some one.0) × AreNext guests entry before
 
--- Since its last entry hart h's guest did only what it may do next.
+-- Since its last entry hart h's guest did only its next operations.
 abbrev pub HasFollowed : Next → List Event → ℕ → Type 0
 HasFollowed guests past h = AreNext guests (last_entry past h) (did past h)
 
 -- ---- how far a guest is
 
--- what a guest may do from some moment on, by its operations since
+-- what a guest does from some moment on, by its operations since
 abbrev pub Rest : Type 0
-Rest = Did → Offer
+Rest = Did → Option Op
 
--- nothing, whatever was done since
-abbrev pub nothing : Rest
-nothing = λ more. no_interrupts None
-
--- `rest` is what a guest may do after this entry and these operations.
+-- `rest` is what a guest does after this entry and these operations.
 abbrev pub IsBehind : Rest → Next → Option Entered → Did → Type 0
-IsBehind rest guests entry before = (more : Did) → rest more ≡ offer_for guests entry (more ++ before)
+IsBehind rest guests entry before = (more : Did) → rest more ≡ next_for guests entry (more ++ before)
 
--- `rest` is what the guest of hart h may do after this history.
+-- `rest` is what the guest of hart h does after this history.
 abbrev pub IsAt : Rest → Next → List Event → ℕ → Type 0
 IsAt rest guests past h = IsBehind rest guests (last_entry past h) (did past h)

@@ -8,4 +8,4 @@ use Rattle.guest_programs.specs.Steps.{AreOwn, Task}
 -- A history of this program: it is legal, and each event was its actor's own.
 pub record IsHistory (o : Opening) (p : Task) (past : List Event) : Type 0 where
   pub legal : IsLegal o past
-  pub own : AreOwn o p past
+  pub own : AreOwn p past

@@ -16,7 +16,7 @@ use Rattle.board_core.specs.Resets.{is_off}
 use Rattle.guest_script.specs.Grammar.{Content, guest}
 use Rattle.guest_programs.specs.declared.blocks.Program.{Program}
 use Rattle.guest_programs.specs.Blocks.{in_blocks}
-use Rattle.guest_programs.specs.Guests.{Next, interrupt_op, next_op}
+use Rattle.guest_programs.specs.Guests.{Next, next_op}
 use Rattle.guest_programs.specs.Programs.{blocks_of, ticks_of}
 use Rattle.guest_programs.specs.declared.steps.Step.{Step}
 use Rattle.guest_programs.specs.declared.steps.Step.TheVariants as takes
@@ -47,21 +47,19 @@ ticked (e ∷ past) = if is_clock e.actor then suc (ticked past) else ticked pas
 abbrev pub next_tick : List ℕ → List Event → Option ℕ
 next_tick ticks past = slice_get ticks (ticked past)
 
--- An operation of a hart's own: its firmware's, its guest's next, or the one with which its guest takes an interrupt.
-abbrev pub IsOwn : (next interrupt : Option Op) → Op → Type 0
-IsOwn next interrupt op =
-    (op ≡ ops.Serve) ⊎ (op ≡ ops.Poll) ⊎ (op ≡ ops.Advance) ⊎ (next ≡ Some op) ⊎ (interrupt ≡ Some op)
+-- An operation of a hart's own: its firmware's, or its guest's next.
+abbrev pub IsOwn : Option Op → Op → Type 0
+IsOwn guest op = (op ≡ ops.Serve) ⊎ (op ≡ ops.Poll) ⊎ (op ≡ ops.Advance) ⊎ (guest ≡ Some op)
 
--- An operation is an actor's own: a hart's firmware's, its guest's next, or the one with which its guest takes an interrupt; or the
--- clock's next tick.
-abbrev pub IsActorsOwn : Opening → Task → List Event → Actor → Op → Type 0
-IsActorsOwn o p past (actors.Hart h) op = IsOwn (next_op p.guests past h) (interrupt_op o p.guests past h) op
-IsActorsOwn o p past actors.Clock op = option_map ops.Tick (next_tick p.ticks past) ≡ Some op
+-- An operation is an actor's own: a hart's firmware's or its guest's next, or the clock's next tick.
+abbrev pub IsActorsOwn : Task → List Event → Actor → Op → Type 0
+IsActorsOwn p past (actors.Hart h) op = IsOwn (next_op p.guests past h) op
+IsActorsOwn p past actors.Clock op = option_map ops.Tick (next_tick p.ticks past) ≡ Some op
 
 -- Each event was its actor's own at its time: each hart follows its guest, and the clock its ticks.
-abbrev pub AreOwn : Opening → Task → List Event → Type 0
-AreOwn o p [] = Unit {0}
-AreOwn o p (e ∷ past) = IsActorsOwn o p past e.actor e.op × AreOwn o p past
+abbrev pub AreOwn : Task → List Event → Type 0
+AreOwn p [] = Unit {0}
+AreOwn p (e ∷ past) = IsActorsOwn p past e.actor e.op × AreOwn p past
 
 -- ---- the set of steps
 
@@ -83,21 +81,19 @@ happens_with_room (Some r) = false
 abbrev pub if_so : Bool → Step → List Step
 if_so can step = if can then step ∷ [] else []
 
--- the steps of hart h, whose guest has this next operation, and takes an interrupt with this one
-abbrev pub hart_steps : Situation → (next interrupt : Option Op) → (h : ℕ) → List Step
-hart_steps s next interrupt h =
+-- the steps of hart h
+abbrev pub hart_steps : Situation → (guest : Option Op) → (h : ℕ) → List Step
+hart_steps s guest h =
     if_so (accepts s ops.Serve) (takes.Serve h)
     ++ if_so (accepts s ops.Poll) (takes.Poll h)
     ++ if_so (accepts s ops.Advance) (takes.Advance h)
-    ++ if_so (accepts_next s interrupt) (takes.Interrupt h)
-    ++ if_so (accepts_next s next) (takes.Guest h)
+    ++ if_so (accepts_next s guest) (takes.Guest h)
 
 -- the steps of the harts below n
 abbrev pub harts_steps : Opening → Next → List Event → (n : ℕ) → List Step
 harts_steps o guests past zero = []
 harts_steps o guests past (suc h) =
-    harts_steps o guests past h
-    ++ hart_steps (situation o past h) (next_op guests past h) (interrupt_op o guests past h) h
+    harts_steps o guests past h ++ hart_steps (situation o past h) (next_op guests past h) h
 
 -- whether there is a next tick for which the time has room
 abbrev pub can_tick : Opening → List Event → Option ℕ → Bool
@@ -115,16 +111,14 @@ abbrev pub actor_of : Step → Actor
 actor_of (takes.Serve h) = actors.Hart h
 actor_of (takes.Poll h) = actors.Hart h
 actor_of (takes.Advance h) = actors.Hart h
-actor_of (takes.Interrupt h) = actors.Hart h
 actor_of (takes.Guest h) = actors.Hart h
 actor_of takes.Tick = actors.Clock
 
--- the operation of a step: for a guest's step its next operation, or the one that takes an interrupt, of an existing hart
+-- the operation of a step: for a guest's step its next operation, of an existing hart
 abbrev pub op_of : Opening → Task → List Event → Step → Option Op
 op_of o p past (takes.Serve h) = Some ops.Serve
 op_of o p past (takes.Poll h) = Some ops.Poll
 op_of o p past (takes.Advance h) = Some ops.Advance
-op_of o p past (takes.Interrupt h) = if nat_lt h o.config.harts then interrupt_op o p.guests past h else None
 op_of o p past (takes.Guest h) = if nat_lt h o.config.harts then next_op p.guests past h else None
 op_of o p past takes.Tick = option_map ops.Tick (next_tick p.ticks past)
 

@@ -1,13 +1,13 @@
 //! How a run ended, found from its record.
-ghost use Rattle.std.specs.Prelude.{◌≡◌, ◌∷◌, ◌<◌, ◌↔◌, ℕ, true, [], IfOk, List, MatchOption, Option, Some, length};
+ghost use Rattle.std.specs.Prelude.{◌≡◌, ◌∷◌, ◌<◌, ◌↔◌, ℕ, true, IfOk, List, MatchOption, None, Option, length};
 ghost use Rattle.board_terms.specs.declared.op.Actor.TheVariants.{Hart};
 ghost use Rattle.board_core.specs.History.{Event};
-ghost use Rattle.guest_programs.specs.Ends.{AreQuiet, IsEnd, IsEndBy, IsOver, IsQuiet};
-ghost use Rattle.guest_programs.specs.Guests.{AreNext, Did, Entered, IsOffered, offer_for};
+ghost use Rattle.guest_programs.specs.Ends.{AreQuiet, IsEnd, IsEndBy, IsQuiet};
+ghost use Rattle.guest_programs.specs.Guests.{AreNext, Did, Entered, next_for};
 ghost use Rattle.guest_programs.specs.Places.{AllFollowed, IsFollowed, IsFollowedTo};
 
 use crate::ends::End;
-use crate::guests::{Guests, interrupt_by, is_guest};
+use crate::guests::{Guests, is_guest};
 use crate::met::Met;
 use crate::places::all_alike;
 use board_core::{Actor, Board, Event, HartState, Op, Reply};
@@ -47,7 +47,7 @@ pub fn end_of<G: Guests>(
 /// What a history shows about a hart's guest.
 #[derive(Clone, Copy)]
 enum Followed<P: Copy> {
-    /// Since its last entry the guest did only what it may do next, and is at this place.
+    /// Since its last entry the guest did only its next operations, and is at this place.
     To(P),
     /// The guest did something else.
     Strayed,
@@ -88,50 +88,25 @@ fn followed_behind<G: Guests>(
     let Followed::To(place) = found else {
         return Followed::Strayed;
     };
-    if !is_offered(guests, place, op) {
+    let Some(next) = guests.op_at(place) else {
+        return Followed::Strayed;
+    };
+    if !is_same(next, op) {
         return Followed::Strayed;
     }
     Followed::To(guests.behind(place, op, reply))
 }
 
-/// Whether an operation is the next one of the guest at this place, or takes an interrupt.
-fn is_offered<G: Guests>(guests: &G, place: G::Place, op: Op) -> bool
-    ensures { (result ≡ true) ↔ IsOffered (G.rest guests.now place []) op }
-{
-    if is_next(guests.op_at(place), op) {
-        return true;
-    }
-    guests.takes_interrupts(place) && is_same(op, Op::ReadSip)
-}
-
-/// Whether an operation is the next one.
-fn is_next(next: Option<Op>, op: Op) -> bool
-    ensures { (result ≡ true) ↔ (next ≡ Some op) }
-{
-    match next {
-        Some(next) => is_same(next, op),
-        None => false,
-    }
-}
-
-/// Whether the guest did only what it may do next, and has nothing left to do, if its hart has this wake.
-fn is_through<G: Guests>(guests: &G, found: &Followed<G::Place>, wake: bool) -> bool
+/// Whether the guest did only its next operations, and has none left.
+fn is_through<G: Guests>(guests: &G, found: &Followed<G::Place>) -> bool
     ensures { (entry : Option Entered) (before : Did)
         → IsFollowedTo (G.rest guests.now) (G.next guests.now) entry before found.now
-        → (result ≡ true)
-        ↔ (AreNext (G.next guests.now) entry before × IsOver (offer_for (G.next guests.now) entry before) wake) }
+        → (result ≡ true) ↔ (AreNext (G.next guests.now) entry before × (next_for (G.next guests.now) entry before ≡ None)) }
 {
     match found {
-        Followed::To(place) => is_over(guests, *place, wake),
+        Followed::To(place) => guests.op_at(*place).is_none(),
         Followed::Strayed => false,
     }
-}
-
-/// Whether the guest at this place has nothing left to do, if its hart has this wake.
-fn is_over<G: Guests>(guests: &G, place: G::Place, wake: bool) -> bool
-    ensures { (result ≡ true) ↔ IsOver (G.rest guests.now place []) wake }
-{
-    guests.op_at(place).is_none() && interrupt_by(guests.takes_interrupts(place), wake).is_none()
 }
 
 /// Whether two operations are the same.
@@ -201,9 +176,7 @@ fn is_quiet<G: Guests>(board: &Board, guests: &G, h: u64, found: &Followed<G::Pl
 {
     match board.state(h) {
         HartState::Stopped => true,
-        HartState::Started => {
-            board.outstanding(h).is_none() && is_through(guests, found, board.wake(h))
-        }
+        HartState::Started => board.outstanding(h).is_none() && is_through(guests, found),
         _ => false,
     }
 }

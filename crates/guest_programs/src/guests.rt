@@ -1,16 +1,16 @@
-//! Guests: what each may do next, and its place.
+//! Guests: what each does next, and its place.
 ghost use Rattle.std.specs.Prelude.{◌≡◌, ◌∷◌, ◌++◌, ℕ, List, []};
 ghost use Rattle.board_terms.specs.declared.op.Actor.TheVariants.{Hart};
 ghost use Rattle.board_core.specs.History.{Event};
-ghost use Rattle.guest_programs.specs.Guests.{IsAt, interrupt_by, is_guest};
+ghost use Rattle.guest_programs.specs.Guests.{IsAt, is_guest};
 
 use board_core::{Op, Reply};
 use std::alloc::AllocError;
 
-/// The guests of a board's harts: what each may do from its entry on, given the replies that it got.
+/// The guests of a board's harts: what each does from its entry on, given the replies that it got.
 pub trait Guests {
-    ghost use Rattle.std.specs.Prelude.{◌≡◌, ◌∷◌, ◌++◌, ℕ, List, [], IfOk};
-    ghost use Rattle.guest_programs.specs.Guests.{Did, Next, Rest, nothing};
+    ghost use Rattle.std.specs.Prelude.{◌≡◌, ◌∷◌, ◌++◌, ℕ, List, [], IfOk, None};
+    ghost use Rattle.guest_programs.specs.Guests.{Did, Next, Rest};
 
     /// The place of a guest in its program.
     type Place: Copy;
@@ -18,7 +18,7 @@ pub trait Guests {
     // What guests do.
     ghost next: { Self → Next };
 
-    // What a guest may do from a place on.
+    // What a guest does from a place on.
     ghost rest: { Self → Self.Place → Rest };
 
     // The words of a place, which identify it.
@@ -26,25 +26,20 @@ pub trait Guests {
 
     /// The place of a guest whose hart wasn't entered yet: it does nothing.
     fn nowhere(&self) -> Self::Place
-        ensures { (more : Did) → rest self.now result more ≡ nothing more };
+        ensures { (more : Did) → rest self.now result more ≡ None };
 
     /// The place of a guest after an entry of its hart.
     fn entered(&self, addr: u64, hart: u64, opaque: u64) -> Self::Place
         ensures { (more : Did) → rest self.now result more
             ≡ next self.now (record { addr = addr; hart = hart; opaque = opaque }) more };
 
-    /// The place after an operation with this reply. The operation needn't be one that the guest may do next.
+    /// The place after an operation with this reply. The operation needn't be the guest's next.
     fn behind(&self, place: Self::Place, op: Op, reply: Reply) -> Self::Place
         ensures { (more : Did) → rest self.now result more ≡ rest self.now place (more ++ (op, reply) ∷ []) };
 
     /// The guest's next operation, if it has one.
     fn op_at(&self, place: Self::Place) -> Option<Op>
-        ensures { result ≡ (rest self.now place []).next };
-
-    /// Whether the guest takes an interrupt, instead of its next operation, once one is pending that sie enables. It begins
-    /// with the operation ReadSip.
-    fn takes_interrupts(&self, place: Self::Place) -> bool
-        ensures { result ≡ (rest self.now place []).takes_interrupts };
+        ensures { result ≡ rest self.now place [] };
 
     /// Appends the words of a place.
     ///
@@ -78,15 +73,4 @@ pub fn is_guest(op: Op) -> bool
     ensures { result ≡ is_guest op }
 {
     !matches!(op, Op::Poll | Op::Serve | Op::Advance | Op::Tick(_))
-}
-
-/// The operation with which a guest takes an interrupt, if it does, and its hart has wake.
-pub fn interrupt_by(takes_interrupts: bool, wake: bool) -> Option<Op>
-    ensures { result ≡ interrupt_by takes_interrupts wake }
-{
-    if takes_interrupts && wake {
-        Some(Op::ReadSip)
-    } else {
-        None
-    }
 }

@@ -1,4 +1,4 @@
-//! Guests' programs, for threads and for exploration: what each hart's guest did and may do next, which steps can be taken, and
+//! Guests' programs, for threads and for exploration: what each hart's guest did and does next, which steps can be taken, and
 //! how a run ended.
 #![tactic(auto)]
 
@@ -18,7 +18,7 @@ pub use blocks::Program;
 pub use boards::new_board;
 pub use ends::{End, RunEnd, RunFault};
 pub use found_end::end_of;
-pub use guests::{Guests, guest_place_after, interrupt_by, is_guest};
+pub use guests::{Guests, guest_place_after, is_guest};
 pub use met::Met;
 pub use places::Places;
 pub use programs::{blocks_in_order, program_in};

@@ -6,7 +6,6 @@ mod blocks;
 mod board_line;
 mod draft;
 mod fault;
-mod fronts;
 mod hart_digits;
 mod laws;
 mod line_kind;

@@ -13,7 +13,6 @@ ghost use Rattle.script_lines.specs.Names.{op_word, said_word};
 ghost use Rattle.script_lines.specs.Packing.{FitsKept, op_made};
 
 use crate::amo_letters::amo_by_letters;
-use crate::fronts::{after, after_arrow, after_byte};
 use crate::hart_digits::plain_hart;
 use crate::numbers::MOST_ARGUMENTS;
 use crate::plain_digits::{plain_digits, plain_hex};
@@ -169,16 +168,16 @@ fn plain_line<'a, A: Among>(
     ensures shorter { IfSome result (λ found. length found.1.now < length bytes.now) }
 {
     let (actor, rest) = plain_actor(bytes)?;
-    let named = after_byte(rest, b' ')?;
+    let named = after(rest, b" ")?;
     let (op, rest) = A::plain_op(named, numbers)?;
     if in_trace {
-        let replies = after_arrow(rest)?;
+        let replies = after(rest, b" ->")?;
         let (said, end) = plain_said(replies)?;
-        let after = after_byte(end, b'\n')?;
+        let after = after(end, b"\n")?;
         let said = Some(said);
         Some((Plain { actor, op, said }, after))
     } else {
-        let after = after_byte(rest, b'\n')?;
+        let after = after(rest, b"\n")?;
         let said = None;
         Some((Plain { actor, op, said }, after))
     }
@@ -249,7 +248,7 @@ fn plain_guest<'a>(
         return None;
     }
     let (op, rest) = plain_named(name, name.word(), bytes, numbers)?;
-    let after = after_byte(rest, b'\n')?;
+    let after = after(rest, b"\n")?;
     Some((op, after))
 }
 
@@ -444,6 +443,15 @@ fn plain_places<'a>(
         return None;
     }
     Some(rest)
+}
+
+/// What follows a front, which the bytes may have.
+#[tactic(auto, using(crate::proofs::PlainParts::stripped))]
+fn after<'a>(bytes: &'a [u8], front: &[u8]) -> Option<&'a [u8]>
+    ensures front { IfSome result (λ rest. bytes.now ≡ front.now ++ rest.now) }
+    ensures shorter { IfSome result (λ rest. length rest.now + length front.now ≡ length bytes.now) }
+{
+    bytes.strip_prefix(front)
 }
 
 /// Reads the next number, behind a blank, if there is one.

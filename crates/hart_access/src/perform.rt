@@ -14,7 +14,6 @@ use tlb_model::{FetchWord, ICache, Tlb};
 /// An access of a hart to the word of 8 bytes at a virtual address, with the hart's satp and caches. What it fills has
 /// this date. An address that isn't aligned to 8 is a fault (profile). A leaf found in the page tables stays filled
 /// even if the access then fails (profile).
-#[inline(always)]
 pub fn access(
     ram: &mut Ram,
     satp: Satp,
@@ -54,7 +53,6 @@ pub fn access(
 
 /// Performs an access at the physical address of a word of the RAM, and returns what it reads, or 0 for a store. A word
 /// that it fills has this date.
-#[inline(always)]
 fn carry_out(ram: &mut Ram, words: &mut ICache, pa: u64, access: Access, date: u64) -> u64
     requires place { IsTrue (is_some (word_in ram.old pa)) }
     requires words { words.old.next < 2 ^ 63 }
@@ -81,7 +79,6 @@ fn carry_out(ram: &mut Ram, words: &mut ICache, pa: u64, access: Access, date: u
 
 /// The cached word of a physical address. If the cache has none, it is the RAM's, which is filled with this date
 /// (Zifencei).
-#[inline(always)]
 fn fetch(ram: &Ram, words: &mut ICache, pa: u64, date: u64) -> u64
     requires place { IsTrue (is_some (word_in ram.now pa)) }
     requires words { words.old.next < 2 ^ 63 }

@@ -24,7 +24,6 @@ pub enum Way {
 impl Way {
     /// The way of an access of this kind. A TLB entry that matches decides, even if it doesn't allow the access. The
     /// page tables are read only if no entry matches (profile).
-    #[inline(always)]
     pub fn of(ram: &Ram, satp: Satp, tlb: &Tlb, va: u64, kind: Kind) -> Way
         ensures { result ≡ way (word_in ram.now) satp (λ at. hit matches at tlb.now) va kind }
     {
@@ -48,7 +47,6 @@ impl Way {
     }
 
     /// The entry that translates the address, if one does.
-    #[inline(always)]
     pub fn used(self) -> Option<Entry>
         ensures { result ≡ used_by self }
     {
@@ -59,7 +57,6 @@ impl Way {
     }
 
     /// The physical address of a word of the RAM, or why the access fails.
-    #[inline(always)]
     pub fn place(self, ram: &Ram, va: u64, kind: Kind) -> Result<u64, Cause>
         ensures { result ≡ place_by (word_in ram.now) self va kind }
     {
@@ -72,7 +69,6 @@ impl Way {
 }
 
 /// The physical address of a virtual address in the entry's page, or why the access fails.
-#[inline(always)]
 #[tactic(auto, using(crate::proofs::Past::no_word_past))]
 fn translate(entry: Entry, ram: &Ram, va: u64, kind: Kind) -> Result<u64, Cause>
     ensures { result ≡ in_memory (word_in ram.now) kind (translated entry.leaf va kind) }
@@ -87,7 +83,6 @@ fn translate(entry: Entry, ram: &Ram, va: u64, kind: Kind) -> Result<u64, Cause>
 }
 
 /// The physical address if the RAM has a word there, or why the access fails.
-#[inline(always)]
 fn in_memory(ram: &Ram, pa: u64, kind: Kind) -> Result<u64, Cause>
     ensures { result ≡ in_memory (word_in ram.now) kind (Ok pa) }
 {

@@ -19,7 +19,7 @@ use Rattle.board_lock.specs.Coming.{chosen}
 use Rattle.board_lock.specs.Events.{IsActor, is_same}
 use Rattle.board_lock.specs.Receipts.{AcceptedCall}
 use Rattle.board_lock.specs.declared.views.HartNow.{HartNow}
-use Rattle.guest_programs.specs.Guests.{IsAt, Next, Offer, Rest, did, interrupt_op, last_entry, next_op, offer_for}
+use Rattle.guest_programs.specs.Guests.{IsAt, Next, Rest, did, last_entry, next_for, next_op}
 use Rattle.guest_programs.specs.Steps.{AreOwn, IsActorsOwn, IsOwn, Task, is_clock, ticked}
 use Rattle.guest_programs.specs.Histories.{IsHistory}
 use Rattle.guest_programs.specs.declared.ends.End.{End}
@@ -29,25 +29,25 @@ use Rattle.hart_threads.proofs.Counting.{none-since, rest-still}
 
 -- ---- a hart's operation
 
-by-row : (serves polls waits advances goes : Bool) (guest interrupt : Option Op) (op : Op)
-    → chosen (first_that_holds ((serves, Some Serve) ∷ (polls, Some Poll) ∷ (waits, None) ∷ (advances, Some Advance) ∷ (goes, guest) ∷ [])) ≡ Some op → IsOwn guest interrupt op
-by-row true polls waits advances goes guest interrupt op is = inl (let t = is in cc)
-by-row false true waits advances goes guest interrupt op is = inr (inl (let t = is in cc))
-by-row false false true advances goes guest interrupt op is = absurd (let t = is in cc)
-by-row false false false true goes guest interrupt op is = inr (inr (inl (let t = is in cc)))
-by-row false false false false true guest interrupt op is = inr (inr (inr (inl is)))
-by-row false false false false false guest interrupt op is = absurd (let t = is in cc)
+by-row : (serves polls waits advances goes : Bool) (guest : Option Op) (op : Op)
+    → chosen (first_that_holds ((serves, Some Serve) ∷ (polls, Some Poll) ∷ (waits, None) ∷ (advances, Some Advance) ∷ (goes, guest) ∷ [])) ≡ Some op → IsOwn guest op
+by-row true polls waits advances goes guest op is = inl (let t = is in cc)
+by-row false true waits advances goes guest op is = inr (inl (let t = is in cc))
+by-row false false true advances goes guest op is = absurd (let t = is in cc)
+by-row false false false true goes guest op is = inr (inr (inl (let t = is in cc)))
+by-row false false false false true guest op is = inr (inr (inr is))
+by-row false false false false false guest op is = absurd (let t = is in cc)
 
-own-choice : (now : HartNow) (guest interrupt : Option Op) (op : Op) → first_choice now guest ≡ Some op → IsOwn guest interrupt op
-own-choice now guest interrupt op is = by-row _ _ _ _ _ guest interrupt op is
+own-choice : (now : HartNow) (guest : Option Op) (op : Op) → first_choice now guest ≡ Some op → IsOwn guest op
+own-choice now guest op is = by-row _ _ _ _ _ guest op is
 
 -- where its hart did nothing since, a guest's next operation is the same
 next-still : (guests : Next) (h : ℕ) (seen past : List Event) → IsSuffix seen past → many_of (Hart h) seen ≡ many_of (Hart h) past → next_op guests seen h ≡ next_op guests past h
 next-still guests h seen past since still =
-    let rest : Rest = (λ more. offer_for guests (last_entry seen h) (more ++ did seen h)) in
+    let rest : Rest = (λ more. next_for guests (last_entry seen h) (more ++ did seen h)) in
     let few : many_of (Hart h) (since.0 ++ seen) ≤ many_of (Hart h) seen = (let same = ap (many_of (Hart h)) since.1 in omega arith) in
     let at : IsAt rest guests (since.0 ++ seen) h = rest-still guests rest (Hart h) since.0 seen (none-since (Hart h) since.0 seen few) (λ more. refl) in
-    subst (λ (p : List Event). next_op guests seen h ≡ next_op guests p h) since.1 (ap (λ (offer : Offer). offer.next) (at []))
+    subst (λ (p : List Event). next_op guests seen h ≡ next_op guests p h) since.1 (at [])
 
 -- ---- the clock's
 
@@ -64,12 +64,10 @@ ticked-many (e ∷ past) = let more = ticked-many past in rw (clock-is e.actor) 
 
 -- ---- each event
 
-own-turn : (o : Opening) (p : Task) (a : Actor) (op : Op) (past : List Event) → IsTurn o p.guests p.ticks a op past → IsActorsOwn o p past a op
+own-turn : (o : Opening) (p : Task) (a : Actor) (op : Op) (past : List Event) → IsTurn o p.guests p.ticks a op past → IsActorsOwn p past a op
 own-turn o p (Hart h) op past turn =
     let picks = turn.holds.1 in
-    let interrupt = interrupt_op o p.guests past h in
-    subst (λ (guest : Option Op). IsOwn guest interrupt op) (next-still p.guests h turn.seen past turn.earlier turn.still)
-    (own-choice picks.now (next_op p.guests turn.seen h) interrupt op picks.first)
+    subst (λ (guest : Option Op). IsOwn guest op) (next-still p.guests h turn.seen past turn.earlier turn.still) (own-choice picks.now (next_op p.guests turn.seen h) op picks.first)
 own-turn o p Clock op past (n, next, is) =
     ap (λ (k : ℕ). option_map Tick (slice_get p.ticks k)) (ticked-many past) ∙ ap (option_map Tick) next ∙ ap (λ (x : Op). Some x) (sym is)
 
@@ -96,7 +94,7 @@ all-told heard o (e ∷ past) legal told =
     ((told e.actor (there-is o past e.actor e.op e.reply legal.0)).0 (same-actor e.actor), all-told heard o past legal.2 (λ a acting. (told a acting).1))
 
 module _ (lets : ℕ → ℕ → Bool → Type 0) (o : Opening) (p : Task) where
-  all-own : (past : List Event) → IsLegal o past → ((a : Actor) → IsActor o.config a → EachOf (IsDue lets o p.guests p.ticks a) a past) → AreOwn o p past
+  all-own : (past : List Event) → IsLegal o past → ((a : Actor) → IsActor o.config a → EachOf (IsDue lets o p.guests p.ticks a) a past) → AreOwn p past
   all-own [] legal due = tt
   all-own (e ∷ past) legal due =
       let turn = (due e.actor (there-is o past e.actor e.op e.reply legal.0)).0 (same-actor e.actor) in

@@ -64,7 +64,7 @@ met-nothing v ClosedGate guest op is = absurd (let e = is in cc)
 
 -- what it chose by its view is its turn
 pub view-turn : (t : Task) (s : Sitting) (v : HartView) (met : Met) (rest : Rest) (op : Op) → IsView t.opening s v → Goes t s rest met
-    → next_choice v met (rest []).next ≡ Some op → HasTurn t s.actor s.count (reverse s.saw) op
+    → next_choice v met (rest []) ≡ Some op → HasTurn t s.actor s.count (reverse s.saw) op
 view-turn t s v Nothing rest op view going is =
     turn-by t (reverse s.saw) rest s.count s.actor v.is_off v.hart op view.hart view.power is going.work.no_fewer going.rest_is
 view-turn t s v FullHistory rest op view going is = absurd (let e = is in cc)
@@ -72,14 +72,14 @@ view-turn t s v ClosedGate rest op view going is = absurd (let e = is in cc)
 
 -- it chose nothing by its view, and every seat rests
 stops-by : (t : Task) (s : Sitting) (v : HartView) (met : Met) (rest : Rest) → s.actor ≢ Clock → IsView t.opening s v → Goes t s rest met
-    → next_choice v met (rest []).next ≡ None → Stops t s.actor s.count (reverse s.saw) met
+    → next_choice v met (rest []) ≡ None → Stops t s.actor s.count (reverse s.saw) met
 stops-by t s v Nothing rest hart view going is =
     none-by t (reverse s.saw) rest s.count s.actor v.is_off v.hart hart view.hart view.power is going.work.no_fewer going.rest_is
 stops-by t s v FullHistory rest hart view going is = going.met_is
 stops-by t s v ClosedGate rest hart view going is = going.met_is
 
 pub rested : (t : Task) (s s' : Sitting) (v : HartView) (met : Met) (rest : Rest) → s.actor ≢ Clock → IsActor t.opening.config s.actor → IsView t.opening s v
-    → Goes t s rest met → next_choice v met (rest []).next ≡ None → s' ≡ seeing s s'.saw → IsPrefix s.saw s'.saw → WorkedAt t s' met
+    → Goes t s rest met → next_choice v met (rest []) ≡ None → s' ≡ seeing s s'.saw → IsPrefix s.saw s'.saw → WorkedAt t s' met
 rested t s s' v met rest hart acting view going is same later =
     worked-later t s s' met same later (record { acting = acting; work = going.work; stopped = stops-by t s v met rest hart view going is })
 

@@ -21,7 +21,7 @@ use Rattle.board_lock.specs.Views.{IsDone, IsRefused, ShowsTo}
 use Rattle.guest_programs.specs.declared.met.Met.{Met}
 use Rattle.guest_programs.specs.declared.met.Met.TheVariants.{Nothing, FullHistory, ClosedGate}
 use Rattle.hart_threads.specs.Choices.{choice_of, first_choice}
-use Rattle.guest_programs.specs.Guests.{IsAt, Next, Offer, Rest, next_op}
+use Rattle.guest_programs.specs.Guests.{IsAt, Next, Rest, next_op}
 use Rattle.hart_threads.specs.Shares.{ChoosesNone, EachOf, IsDue, WasTold, IsTurn, Refuses, gate_number, many_of}
 use Rattle.hart_threads.specs.Inside.Works.{At, Goes, HasMet, HasTurn, IsAtWork, IsGoing, IsAtSeat, SeesNoMore, Stops, Task}
 use Rattle.hart_threads.proofs.Counting.{each-still, earlier-of, length-events, no-more, none-since, own-one-more, rest-still}
@@ -82,12 +82,12 @@ going-later t a n past later rest met since going = record {
 -- ---- what a hart's thread chooses by its view
 
 abbrev Chosen : (off : Bool) → Option HartNow → Rest → Option Op
-Chosen off hart rest = if off then None else choice_of hart (rest []).next
+Chosen off hart rest = if off then None else choice_of hart (rest [])
 
 module _ (t : Task) (seen : List Event) (rest : Rest) (n : ℕ) where
   -- it chose by what its guest does next
-  by-next : (now : HartNow) (h : ℕ) (choice : Option Op) → first_choice now (rest []).next ≡ choice → IsAt rest t.guests seen h → first_choice now (next_op t.guests seen h) ≡ choice
-  by-next now h choice is at = ap (λ (offer : Offer). first_choice now offer.next) (sym (at [])) ∙ is
+  by-next : (now : HartNow) (h : ℕ) (choice : Option Op) → first_choice now (rest []) ≡ choice → IsAt rest t.guests seen h → first_choice now (next_op t.guests seen h) ≡ choice
+  by-next now h choice is at = ap (first_choice now) (sym (at [])) ∙ is
 
   pub turn-by : (a : Actor) (off : Bool) (hart : Option HartNow) (op : Op) → ShowsTo (record { opening = t.opening; past = seen }) a hart → off ≡ is_off t.opening seen
       → Chosen off hart rest ≡ Some op → n ≤ many_of a seen → (many_of a seen ≡ n → IsAtSeat t.guests rest seen a)

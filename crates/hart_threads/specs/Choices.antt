@@ -52,6 +52,6 @@ abbrev pub awaited : HartView → Met → (guest : Option Op) → Awaits
 awaited view Nothing guest = if view.is_off then End else awaited_by guest
 awaited view met guest = End
 
--- No operation of a hart's own is accepted in this situation, if its guest takes no interrupts, as those of scripts.
+-- No operation of a hart's own is accepted in this situation.
 abbrev pub HasNothing : Option Op → Situation → Type 0
-HasNothing guest s = (op : Op) → IsOwn guest None op → ¬ IsAccepted op s
+HasNothing guest s = (op : Op) → IsOwn guest op → ¬ IsAccepted op s

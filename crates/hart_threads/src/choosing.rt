@@ -13,7 +13,7 @@ use board_lock::HartNow;
 use guest_programs::is_guest;
 
 /// The next operation of a hart, if there is one, by its view and its guest's next operation. The firmware's comes first;
-/// inside a fence call the guest does nothing. (Threads run guests of scripts, which take no interrupts.)
+/// inside a fence call the guest does nothing.
 pub(crate) fn choice(now: &HartNow, guest: Option<Op>) -> Option<Op>
     ensures exact { result ≡ first_choice now.now guest }
     ensures happens { (s : Situation) → Sees s now.now → IfSome result (λ op. IsAccepted op s) }

@@ -19,12 +19,11 @@ pub(crate) trait Plan: Room {
 }
 
 impl Plan for Brand {
-    ghost use Rattle.std.specs.Prelude.{[]};
-    ghost use Rattle.guest_programs.specs.Guests.{nothing};
+    ghost use Rattle.std.specs.Prelude.{[], None};
 
     ghost ticks = { [] };
 
-    ghost guests = { λ _. nothing };
+    ghost guests = { λ _ _. None };
 
     ghost lets = { λ _ _ _. Unit {0} };
 

@@ -311,10 +311,10 @@ few (suc n) members all one =
 
 -- where a hart has none, there is room for it
 pub room : (time : ℕ) (deadlines : List (Option ℕ)) (ahead : List Member) (due : List ℕ) (h : ℕ) → h < length deadlines
-    → deadlines_in h ahead ≡ [] → IsListed time deadlines ahead due → length ahead < length deadlines
+    → deadlines_in h ahead ≡ [] → IsListed time deadlines ahead due → length ahead < 128
 room time deadlines ahead due h inside none kept =
     let count = few (length deadlines) (member_of 0 h ∷ ahead) (All-cons (λ (m : Member). m.hart < length deadlines) (member_of 0 h) ahead inside kept.harts) one in
-    omega (arith, count)
+    omega (arith, count, kept.limit)
   where
     at_most : (in_set : Bool) (d : Option ℕ) (ds : List ℕ) → ds ≡ (if in_set then [] else option_to_list d) → length ds ≤ 1
     at_most true d ds is = rw is (omega arith)

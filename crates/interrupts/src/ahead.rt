@@ -1,83 +1,80 @@
 //! Deadlines that aren't due yet, in order.
 
-ghost use Rattle.std.specs.Prelude.{◌≡◌, ◌+◌, ◌<◌, ◌≤◌, drop, length, [], ◌==◌, IfOk, MatchOption, vec_capacity};
+ghost use Rattle.std.specs.Prelude.{◌≡◌, ◌+◌, ◌<◌, ◌≤◌, drop, length, [], ◌==◌, MatchOption};
 ghost use Rattle.std.specs.List.{insert, position};
 ghost use Rattle.std.specs.List.Sorted.{IsNonDecreasingBy};
 ghost use Rattle.interrupts.specs.declared.ahead.Member.{Member};
 ghost use Rattle.interrupts.specs.Inside.Ahead.{AreLater, IsFirst, IsInserted, IsPlaceOf, member_of, without_hart};
 
-use std::alloc::{AllocError, Global};
+use arrayvec::ArrayVec;
 use std::marker::Model;
 
+/// The room for deadlines: one for each of the 128 harts that a board has at most.
+const ROOM: usize = 128;
+
 /// A deadline in ticks, and its hart.
-#[derive(Clone, Copy, Debug, Drop)]
+#[derive(Clone, Copy, Debug, Default, Drop)]
 pub struct Member {
     deadline: u64,
     hart: u64,
 }
 
-/// Deadlines that aren't due yet, the soonest first, in room that is reserved once. The members before `start` were already
-/// taken from the front; their places are used again once all places are full.
+/// Deadlines that aren't due yet, the soonest first. The members before `start` were already taken from the front;
+/// their places are used again once all places are full.
 #[derive(Debug, Drop)]
 pub struct Ahead {
-    members: Vec<Member>,
+    members: ArrayVec<Member, ROOM>,
     start: usize,
 }
 
 impl Model for Ahead {
-    ghost use Rattle.std.specs.Prelude.{◌≤◌, drop, length, vec_capacity};
+    ghost use Rattle.std.specs.Prelude.{◌≤◌, List, drop, length};
     ghost use Rattle.std.specs.List.Sorted.{IsNonDecreasingBy};
     ghost use Rattle.interrupts.specs.declared.ahead.Member.{Member};
-    ghost use Rattle.interrupts.specs.Inside.Ahead.{Deadlines};
 
-    ghost Value = { Deadlines };
+    ghost Value = { List Member };
 
-    ghost view = { λ a. record { list = drop a.start a.members.items; room = vec_capacity a.members } };
+    ghost view = { λ a. drop a.start a.members.items };
 
     ghost invariant = { λ a. (a.start ≤ length a.members.items)
         × IsNonDecreasingBy (λ (m : Member). m.deadline) (drop a.start a.members.items) };
 }
 
 impl Ahead {
-    /// No deadline, with room for so many.
-    ///
-    /// # Errors
-    ///
-    /// Out of memory.
-    pub fn new(alloc: Global, room: usize) -> Result<Ahead, AllocError>
-        ensures { IfOk result (λ ahead. ahead ≡ record { list = []; room = room }) }
+    /// No deadline.
+    pub fn new() -> Ahead
+        ensures { result ≡ [] }
     {
-        let members = Vec::with_capacity(alloc, room)?;
-        Ok(Ahead { members, start: 0 })
+        Ahead {
+            members: ArrayVec::new(),
+            start: 0,
+        }
     }
 
-    /// The same deadlines, with as much room.
-    ///
-    /// # Errors
-    ///
-    /// Out of memory.
-    pub fn copy(&self, alloc: Global) -> Result<Ahead, AllocError>
-        ensures { IfOk result (λ copy. copy ≡ self.now) }
+    /// The same deadlines.
+    pub fn copy(&self) -> Ahead
+        ensures { result ≡ self.now }
     {
-        let mut copy = Ahead::new(alloc, self.members.capacity())?;
+        let mut copy = Ahead::new();
         copy.copy_from(self);
-        Ok(copy)
+        copy
     }
 
-    /// Becomes a copy of other deadlines, for which there is as much room.
+    /// Becomes a copy of other deadlines.
     pub fn copy_from(&mut self, from: &Ahead)
-        requires { self.old.room ≡ from.now.room }
         ensures { self.new ≡ from.now }
     {
-        copy_members(&mut self.members, &from.members);
+        self.members.clear();
+        let Ok(()) = self.members.try_extend_from_slice(&from.members) else {
+            unreachable!()
+        };
         self.start = from.start;
     }
 
     /// Inserts a deadline.
     pub fn insert(&mut self, deadline: u64, hart: u64)
-        requires { length self.old.list < self.old.room }
-        ensures inserted { IsInserted (member_of deadline hart) self.old.list self.new.list }
-        ensures room { self.new.room ≡ self.old.room }
+        requires { length self.old < 128 }
+        ensures { IsInserted (member_of deadline hart) self.old self.new }
     {
         self.start = with_room(&mut self.members, self.start);
         let place = place_of(self.members.as_slice(), self.start, deadline);
@@ -86,8 +83,7 @@ impl Ahead {
 
     /// Removes this hart's first deadline, if it has one.
     pub fn take_out(&mut self, hart: u64)
-        ensures list { self.new.list ≡ without_hart hart self.old.list }
-        ensures room { self.new.room ≡ self.old.room }
+        ensures { self.new ≡ without_hart hart self.old }
     {
         if let Some(place) = place_of_hart(&self.members.as_slice()[self.start..], hart) {
             self.members.remove(self.start + place);
@@ -96,9 +92,7 @@ impl Ahead {
 
     /// Removes the first deadline if it isn't later than the time, and returns its hart.
     pub fn pop_due(&mut self, time: u64) -> Option<u64>
-        ensures popped { MatchOption result (AreLater time self.old.list self.new.list)
-            (λ hart. IsFirst time hart self.old.list self.new.list) }
-        ensures room { self.new.room ≡ self.old.room }
+        ensures { MatchOption result (AreLater time self.old self.new) (λ hart. IsFirst time hart self.old self.new) }
     {
         let first = *self.members.as_slice().get(self.start)?;
         if first.deadline > time {
@@ -110,37 +104,23 @@ impl Ahead {
 
     /// Removes all deadlines.
     pub fn clear(&mut self)
-        ensures list { self.new.list ≡ [] }
-        ensures room { self.new.room ≡ self.old.room }
+        ensures { self.new ≡ [] }
     {
         self.members.clear();
         self.start = 0;
     }
 }
 
-/// Makes members copies of others, for which there is room.
-fn copy_members(members: &mut Vec<Member>, from: &[Member])
-    requires { length from.now ≤ vec_capacity members.old }
-    ensures items { members.new.items ≡ from.now }
-    ensures room { vec_capacity members.new ≡ vec_capacity members.old }
-{
-    members.clear();
-    for member in from {
-        members.push_reserved(*member);
-    }
-}
-
 /// Makes room for one member if all places are full, by dropping those already taken from the front. It returns the new
 /// start.
-fn with_room(members: &mut Vec<Member>, start: usize) -> usize
+fn with_room(members: &mut ArrayVec<Member, ROOM>, start: usize) -> usize
     requires within { start ≤ length members.old.items }
-    requires some_left { length members.old.items < vec_capacity members.old + start }
+    requires some_left { length members.old.items < 128 + start }
     ensures same { drop result members.new.items ≡ drop start members.old.items }
     ensures within { result ≤ length members.new.items }
-    ensures left { length members.new.items < vec_capacity members.new }
-    ensures room { vec_capacity members.new ≡ vec_capacity members.old }
+    ensures room { length members.new.items < 128 }
 {
-    if members.len() < members.capacity() {
+    if !members.is_full() {
         return start;
     }
     let left = members.len() - start;
@@ -180,19 +160,16 @@ fn place_of(members: &[Member], start: usize, deadline: u64) -> usize
 }
 
 /// Inserts a member at a place; there is room for it. At the end no member moves.
-fn put(members: &mut Vec<Member>, place: usize, member: Member)
+fn put(members: &mut ArrayVec<Member, ROOM>, place: usize, member: Member)
     requires within { place ≤ length members.old.items }
-    requires left { length members.old.items < vec_capacity members.old }
-    ensures items { members.new.items ≡ insert members.old.items place member }
-    ensures room { vec_capacity members.new ≡ vec_capacity members.old }
+    requires room { length members.old.items < 128 }
+    ensures { members.new.items ≡ insert members.old.items place member }
 {
     if place == members.len() {
-        members.push_reserved(member);
+        members.push(member);
         return;
     }
-    let Ok(()) = members.insert(place, member) else {
-        unreachable!()
-    };
+    members.insert(place, member);
 }
 
 /// The place of this hart's first deadline.

@@ -33,7 +33,7 @@ pub struct Timers {
 }
 
 impl Model for Timers {
-    ghost use Rattle.std.specs.Prelude.{◌≡◌, ◌≤◌, length, vec_capacity, vec_len};
+    ghost use Rattle.std.specs.Prelude.{◌≡◌, ◌≤◌, vec_capacity, vec_len};
     ghost use Rattle.interrupts.specs.Timing.{Timing, last_time};
     ghost use Rattle.interrupts.specs.Inside.Ahead.{IsLater};
     ghost use Rattle.interrupts.specs.Inside.Listed.{IsListed};
@@ -43,10 +43,9 @@ impl Model for Timers {
     ghost view = { λ t. record { time = t.time; deadlines = t.deadlines.items } };
 
     ghost invariant = { λ t. (t.time ≤ last_time)
-        × IsListed t.time t.deadlines.items t.ahead.list t.due
-        × IsLater t.time t.ahead.list
-        × (vec_capacity t.deadlines ≡ vec_len t.deadlines)
-        × (t.ahead.room ≡ length t.deadlines.items) };
+        × IsListed t.time t.deadlines.items t.ahead t.due
+        × IsLater t.time t.ahead
+        × (vec_capacity t.deadlines ≡ vec_len t.deadlines) };
 }
 
 impl Timers {
@@ -60,11 +59,10 @@ impl Timers {
         ensures { IfOk result (λ timers. timers ≡ opening_timing harts) }
     {
         let deadlines = no_deadlines(alloc, harts)?;
-        let ahead = Ahead::new(alloc, harts as usize)?;
         Ok(Timers {
             time: 0,
             deadlines,
-            ahead,
+            ahead: Ahead::new(),
             due: HartSet::new(),
         })
     }
@@ -81,11 +79,10 @@ impl Timers {
         for deadline in &self.deadlines {
             deadlines.push_reserved(*deadline);
         }
-        let ahead = self.ahead.copy(alloc)?;
         Ok(Timers {
             time: self.time,
             deadlines,
-            ahead,
+            ahead: self.ahead.copy(),
             due: self.due,
         })
     }
@@ -213,8 +210,7 @@ fn no_deadlines(alloc: Global, harts: u64) -> Result<Vec<Option<u64>>, AllocErro
 
 /// Removes the deadline of hart `h` if it is in the list, which `is_ahead` says.
 fn take_out_where(ahead: &mut Ahead, h: u64, is_ahead: bool)
-    ensures list { ahead.new.list ≡ (if is_ahead then without_hart h ahead.old.list else ahead.old.list) }
-    ensures room { ahead.new.room ≡ ahead.old.room }
+    ensures { ahead.new ≡ (if is_ahead then without_hart h ahead.old else ahead.old) }
 {
     if is_ahead {
         ahead.take_out(h);
@@ -223,11 +219,10 @@ fn take_out_where(ahead: &mut Ahead, h: u64, is_ahead: bool)
 
 /// Moves the harts of the deadlines that are due at this time from the list to the set.
 fn move_due(ahead: &mut Ahead, due: &mut HartSet, time: u64)
-    requires { All (λ (member : Member). member.hart < 128) ahead.old.list }
-    ensures left { ahead.new.list ≡ left_after time ahead.old.list }
-    ensures moved { due.new ≡ due_after time due.old ahead.old.list }
-    ensures later { IsLater time ahead.new.list }
-    ensures room { ahead.new.room ≡ ahead.old.room }
+    requires { All (λ (member : Member). member.hart < 128) ahead.old }
+    ensures left { ahead.new ≡ left_after time ahead.old }
+    ensures moved { due.new ≡ due_after time due.old ahead.old }
+    ensures later { IsLater time ahead.new }
 {
     while let Some(hart) = ahead.pop_due(time) {
         due.insert(hart);

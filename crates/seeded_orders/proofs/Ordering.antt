@@ -24,7 +24,7 @@ use Rattle.seeded_orders.specs.declared.pickers.Picker.TheVariants.{Even, Ranked
 use Rattle.seeded_orders.specs.Orders.{IsTried, met_before, ordered, order_of, past_after, past_with, pick, picked, picker_of}
 use Rattle.seeded_orders.specs.Ranks.{higher, highest, reranked}
 use Rattle.guest_programs.specs.Steps.{actor_of, AreOwn, IsActorsOwn, op_of, steps, Task, task_in, task_of}
-use Rattle.guest_programs.specs.Guests.{interrupt_op, next_op}
+use Rattle.guest_programs.specs.Guests.{next_op}
 
 -- of no steps none is picked
 nothing-picked : (picker : Picker) (turn : ℕ) → (pick picker turn []).0 ≡ None
@@ -53,12 +53,12 @@ ordered-next o p most i turn picker past below =
 -- ---- each step is an actor's own
 
 own-recorded : (o : Opening) (p : Task) (past : List Event) (actor : Actor) (op : Op) (said : Result Reply Refusal)
-    → IsActorsOwn o p past actor op → AreOwn o p past → AreOwn o p (recorded (record { opening = o; past = past }) actor op said).past
+    → IsActorsOwn p past actor op → AreOwn p past → AreOwn p (recorded (record { opening = o; past = past }) actor op said).past
 own-recorded o p past actor op (Ok reply) own owns = (own, owns)
 own-recorded o p past actor op (Err refusal) own owns = owns
 
 own-after : (o : Opening) (p : Task) (past : List Event) (actor : Actor) (found : Option Op)
-    → ((op : Op) → found ≡ Some op → IsActorsOwn o p past actor op) → AreOwn o p past → AreOwn o p (past_after o past actor found)
+    → ((op : Op) → found ≡ Some op → IsActorsOwn p past actor op) → AreOwn p past → AreOwn p (past_after o past actor found)
 own-after o p past actor None own owns = owns
 own-after o p past actor (Some op) own owns = own-recorded o p past actor op (answer o past actor op) (own op refl) owns
 
@@ -69,20 +69,19 @@ guarded : (is_there : Bool) (next : Option Op) (op : Op) → (if is_there then n
 guarded true next op found = found
 guarded false next op found = absurd (let t = found in cc)
 
-pub own-step : (o : Opening) (p : Task) (past : List Event) (step : Step) (op : Op) → op_of o p past step ≡ Some op → IsActorsOwn o p past (actor_of step) op
+pub own-step : (o : Opening) (p : Task) (past : List Event) (step : Step) (op : Op) → op_of o p past step ≡ Some op → IsActorsOwn p past (actor_of step) op
 own-step o p past (takes.Serve h) op found = inl (some-is _ op found)
 own-step o p past (takes.Poll h) op found = inr (inl (some-is _ op found))
 own-step o p past (takes.Advance h) op found = inr (inr (inl (some-is _ op found)))
-own-step o p past (takes.Interrupt h) op found = inr (inr (inr (inr (guarded _ (interrupt_op o p.guests past h) op found))))
-own-step o p past (takes.Guest h) op found = inr (inr (inr (inl (guarded _ (next_op p.guests past h) op found))))
+own-step o p past (takes.Guest h) op found = inr (inr (inr (guarded _ (next_op p.guests past h) op found)))
 own-step o p past takes.Tick op found = found
 
-own-with : (o : Opening) (p : Task) (past : List Event) (found : Option Step) → AreOwn o p past → AreOwn o p (past_with o p past found)
+own-with : (o : Opening) (p : Task) (past : List Event) (found : Option Step) → AreOwn p past → AreOwn p (past_with o p past found)
 own-with o p past None owns = owns
 own-with o p past (Some step) owns = own-after o p past (actor_of step) (op_of o p past step) (own-step o p past step) owns
 
 -- Each event of a picked order was its actor's own.
-pub ordered-own : (o : Opening) (p : Task) (most turn : ℕ) (picker : Picker) (past : List Event) → AreOwn o p past → AreOwn o p (ordered o p most turn picker past)
+pub ordered-own : (o : Opening) (p : Task) (most turn : ℕ) (picker : Picker) (past : List Event) → AreOwn p past → AreOwn p (ordered o p most turn picker past)
 unfolding ordered
 ordered-own o p zero turn picker past owns = owns
 ordered-own o p (suc most) turn picker past owns =
@@ -154,5 +153,5 @@ pub order-is-tried : (c : Config) (p : Task) (seed order : ℕ) (past : List Eve
     → IsEndBy (met_before (steps (opening_at c) p past)) (opening_at c) past p.guests end → IsTried c p seed order past end
 order-is-tried c p seed order past picker end picks follows ended by =
     let same : past ≡ order_of c p seed order = follows ∙ ap (λ (g : Picker). ordered (opening_at c) p c.limit 0 g []) picks in
-    let Q : List Event → Type 0 = λ xs. AreOwn (opening_at c) p xs in
+    let Q : List Event → Type 0 = λ xs. AreOwn p xs in
     record { same = same; own = subst Q (sym same) (ordered-own (opening_at c) p c.limit 0 (picker_of c.harts seed order) [] tt); ended = ended; by = by }

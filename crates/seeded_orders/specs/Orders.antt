@@ -69,6 +69,6 @@ met_before (step ∷ left) = FullHistory
 -- HistoryFull if and only if a step is left.
 pub record IsTried (c : Config) (p : Task) (seed order : ℕ) (past : List Event) (end : End) : Type 0 where
   pub same : past ≡ order_of c p seed order
-  pub own : AreOwn (opening_at c) p past
+  pub own : AreOwn p past
   pub ended : IsEnd end (opening_at c) past p.guests
   pub by : IsEndBy (met_before (steps (opening_at c) p past)) (opening_at c) past p.guests end

@@ -11,14 +11,12 @@ pub record Ranking : Type 0 where
   pub first : ℕ
   pub second : ℕ
 
--- The place of the rank of a step's kind: first the clock's, then four for each hart. Hart ids are below 128. What a guest does
--- next, and its interrupts, are of one kind.
+-- The place of the rank of a step's kind: first the clock's, then four for each hart. Hart ids are below 128.
 abbrev pub place_of : Step → ℕ
 place_of takes.Tick = 0
 place_of (takes.Serve h) = 4 * (h % 128) + 1
 place_of (takes.Poll h) = 4 * (h % 128) + 2
 place_of (takes.Advance h) = 4 * (h % 128) + 3
-place_of (takes.Interrupt h) = 4 * (h % 128) + 4
 place_of (takes.Guest h) = 4 * (h % 128) + 4
 
 abbrev pub rank_of : List ℕ → Step → ℕ

@@ -30,12 +30,12 @@ fn choice_of(event: &Event) -> u16
     ensures { result ≡ choice_of event.now }
 {
     match event.actor() {
-        Actor::Hart(h) => 5 * (h % 128) as u16 + own_number(event.op()),
-        Actor::Clock => 640,
+        Actor::Hart(h) => 4 * (h % 128) as u16 + own_number(event.op()),
+        Actor::Clock => 512,
     }
 }
 
-/// The number of an operation's kind, of a hart's five.
+/// The number of an operation's kind, of a hart's four.
 fn own_number(op: Op) -> u16
     ensures { result ≡ own_number op }
 {
@@ -43,7 +43,6 @@ fn own_number(op: Op) -> u16
         Op::Serve => 1,
         Op::Poll => 2,
         Op::Advance => 3,
-        Op::ReadSip => 4,
         _ => 0,
     }
 }
@@ -51,6 +50,6 @@ fn own_number(op: Op) -> u16
 /// Two records of the same program on the same board are equal if their choices are. A law: there is nothing to run.
 pub fn choices_tell_records()
     ensures { (o : Opening) (p : Task) (one other : List Event) → IsGood o.config → IsLegal o one → IsLegal o other
-        → AreOwn o p one → AreOwn o p other
+        → AreOwn p one → AreOwn p other
         → map choice_of (reverse one) ≡ map choice_of (reverse other) → one ≡ other }
 {}

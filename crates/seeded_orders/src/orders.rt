@@ -140,7 +140,7 @@ fn take<G: Guests>(board: &mut Board, guests: &G, places: &mut Places<'_, G::Pla
         → AreAt (G.rest guests.now) p board.old.opening.config.harts board.old.past places.old
         → AreAt (G.rest guests.now) p board.old.opening.config.harts board.new.past places.new }
 {
-    let Some(op) = places.op(guests, board, step) else {
+    let Some(op) = places.op(guests, step) else {
         return;
     };
     let actor = step.actor();

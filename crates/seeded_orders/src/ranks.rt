@@ -97,8 +97,7 @@ fn drawn(alloc: Global, many: u64, words: &mut Pcg64Dxsm) -> Result<Vec<u64>, Al
     Ok(ranks)
 }
 
-/// The place of the rank of a step's kind: first the clock's, then four for each hart. Hart ids are below 128. What a guest does
-/// next, and its interrupts, are of one kind.
+/// The place of the rank of a step's kind: first the clock's, then four for each hart. Hart ids are below 128.
 fn place_of(step: Step) -> usize
     ensures { result ≡ place_of step }
 {
@@ -107,7 +106,7 @@ fn place_of(step: Step) -> usize
         Step::Serve(h) => 4 * (h % 128) as usize + 1,
         Step::Poll(h) => 4 * (h % 128) as usize + 2,
         Step::Advance(h) => 4 * (h % 128) as usize + 3,
-        Step::Interrupt(h) | Step::Guest(h) => 4 * (h % 128) as usize + 4,
+        Step::Guest(h) => 4 * (h % 128) as usize + 4,
     }
 }
 

@@ -14,7 +14,6 @@ use crate::satp::Satp;
 /// Walks the page tables in the RAM for a virtual address. It returns the leaf, if the leaf allows an access of this
 /// kind, or why the access fails (Privileged 4.3.2, 4.4.1, 4.5.1). It reads at most four words. With MODE Bare it walks
 /// as by Sv39.
-#[inline(always)]
 pub fn walk(ram: &Ram, satp: Satp, va: u64, kind: Kind) -> Result<Leaf, Cause>
     ensures { result ≡ maps (word_in ram.now) satp va kind }
 {

@@ -5,7 +5,6 @@
 mod causes;
 mod counts;
 mod details;
-mod loose_records;
 mod missing;
 mod notes;
 mod page;
@@ -22,7 +21,6 @@ mod verdict;
 pub use causes::ToldCause;
 pub use counts::{AllOrders, Counts};
 pub use details::{Detail, Difference, Unwritten};
-pub use loose_records::{loose_line, loose_record};
 pub use missing::{Missing, lack_of};
 pub use notes::{Given, LoadGave, Note, Outcome, STALE_IN_SOME, Stale, StaleAccess};
 pub use page::{Page, Style};

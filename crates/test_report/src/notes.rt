@@ -50,9 +50,6 @@ impl fmt::Display for StaleAccess {
 pub const STALE_IN_SOME: &str =
     "stale in some order: a walk gives another translation; `#! never stale` tells the order";
 
-/// What is told of orders with any TLBs.
-const ON_ANY_TLB: &str = "on a board with any TLBs, whose walks are of one moment";
-
 /// What a load, a fetch or an AMO gave: a value, or the number of its fault's cause.
 #[derive(Clone, Copy, PartialEq, Eq, Hash)]
 pub enum Given {
@@ -103,8 +100,6 @@ pub enum Note {
     OnlyErrors(u64, String),
     /// A hart was entered at this address, where no block is.
     NoBlock(u64),
-    /// The orders are those of a board with any TLBs.
-    AnyTlb,
     /// Not all orders were seen, but these numbers of states and steps.
     NotAllSeen(usize, usize),
     /// All orders.
@@ -138,7 +133,6 @@ impl fmt::Display for Note {
                 write!(f, "line {line}: each answer to '{said}' was an error")
             }
             Note::NoBlock(addr) => write!(f, "a hart was entered at {addr:#x}, where no block is"),
-            Note::AnyTlb => write!(f, "{ON_ANY_TLB}"),
             Note::NotAllSeen(states, steps) => {
                 write!(
                     f,

@@ -74,13 +74,6 @@ pub(crate) fn event_line(alloc: Global, event: &Event) -> Result<Vec<u8>, AllocE
     text.taken(put)
 }
 
-/// The line of a board, with which its records begin.
-pub(crate) fn head_line(alloc: Global, board: &Board) -> Result<Vec<u8>, AllocError> {
-    let mut head = Text::new(alloc);
-    let put = print_head(board.config(), &mut head);
-    head.taken(put)
-}
-
 /// A record: the board after it, the events before each cut of its history, all events, and of a program how it ended.
 #[derive(Clone, Copy)]
 pub struct RecordParts<'a> {
@@ -122,7 +115,9 @@ pub fn step_line(
 
 /// A record as a trace: the line of its board, its events and cuts, and the board's table behind.
 pub fn record(alloc: Global, told: RecordParts<'_>) -> Result<Vec<u8>, AllocError> {
-    let mut bytes = head_line(alloc, told.board)?;
+    let mut head = Text::new(alloc);
+    let put = print_head(told.board.config(), &mut head);
+    let mut bytes = head.taken(put)?;
     for segment in told.segments {
         put_events(alloc, segment, &mut bytes)?;
         let line = step_line(alloc, Doing::Cut, Ok(Reply::Done))?;

@@ -1,5 +1,4 @@
 pub mod Lists
-pub mod Loosely
 pub mod Meeting
 pub mod Printing
 pub mod Records

@@ -1,10 +1,10 @@
 -- From verdicts that hold to conditions that are met.
 use Rattle.std.proofs.Common.{◌≡◌, ◌≢◌, inl, inr, ℕ, zero, suc, ◌+◌, ◌<◌, List, [], ◌∷◌, ◌++◌, length, refl, sym, ap, ◌∙◌, subst, arith}
-use Rattle.std.specs.Prelude.{◌==◌, if◌then◌else◌, Bool, false, map, slice_get, Option, Some, None}
+use Rattle.std.specs.Prelude.{◌==◌, if◌then◌else◌, Bool, map, slice_get, Option, Some, None}
 use Rattle.std.specs.Global.{Vec}
 use Rattle.std.proofs.lemmas.List.{append-nil, length-append}
 use Rattle.conditions.specs.Condition.{Condition}
-use Rattle.conditions.specs.Grammar.{has_any_tlb}
+use Rattle.guest_programs.specs.Steps.{task_of}
 use Rattle.guest_script.specs.Grammar.{content, written}
 use Rattle.outcome_statistics.specs.Records.{Tried}
 use Rattle.test_report.specs.Statuses.{extents, verdicts}
@@ -24,20 +24,17 @@ use Rattle.test_runner.specs.Meeting.{AreAllMet, AreMetBy, AreMetByAll, AreMetBy
 use Rattle.test_runner.proofs.Lists.{EachIsHolds, back-holds, front-holds, holds-in, none-fails}
 
 by-all : (options : Options) (bytes : List ℕ) (file : FileReport) (it : IsFoundOfScript options bytes file) (seconds states : Option ℕ)
-    → IsExplored options it.script it.conditions (has_any_tlb bytes) seconds states (verdicts it.judged) → EachIsHolds (verdicts it.judged)
+    → IsExplored options it.script it.conditions seconds states (verdicts it.judged) → EachIsHolds (verdicts it.judged)
     → AreMetByAll bytes (verdicts it.judged)
-by-all options bytes file it seconds states explored each =
-    let found = explored.are.are in record {
-      script = written it.script;
-      conditions = it.conditions;
-      are = record { reads = it.reads; program = explored.program; have = it.have };
-      orders = explored.are.orders;
-      of = explored.are.of;
-      each = (λ place below.
-          holds-in (λ place verdict. IsFoundBy (widest it.script.config) explored.are.orders seconds states (slice_get it.conditions place) verdict)
-          (verdicts it.judged) each found.each place (let many = found.many in omega arith));
-      many = found.many;
-    }
+by-all options bytes file it seconds states explored each = record {
+  script = written it.script;
+  conditions = it.conditions;
+  are = record { reads = it.reads; program = explored.program; have = it.have };
+  each = (λ place below.
+      holds-in (λ place verdict. IsFoundBy (widest it.script.config) (task_of (content it.script.body)) seconds states (slice_get it.conditions place) verdict)
+      (verdicts it.judged) each explored.are.each place (let many = explored.are.many in omega arith));
+  many = explored.are.many;
+}
 
 module _ (Tries : List Tried → Type 0) (Tells : List Tried → Extent → Type 0) (harts : ℕ) (is_cut : Bool) (conditions : List Condition)
     (before after : FileReport) (adds : AddsPoints Tries Tells harts is_cut conditions before after) where
@@ -95,8 +92,8 @@ no-points : (begun : FileReport) → begun.points.items ≡ [] → (verdicts beg
 no-points begun none = (ap (map (λ (point : Point). point.verdict)) none, ap (map (λ (point : Point). point.reach)) none)
 
 by-tried : (options : Options) (bytes : List ℕ) (file : FileReport) (it : IsFoundOfScript options bytes file)
-    → has_any_tlb bytes ≡ false → AreTried options it.script it.conditions it.judged → EachIsHolds (verdicts it.judged) → AreMetByTried options bytes it.judged
-by-tried options bytes file it own tried each =
+    → AreTried options it.script it.conditions it.judged → EachIsHolds (verdicts it.judged) → AreMetByTried options bytes it.judged
+by-tried options bytes file it tried each =
     let harts : ℕ = it.script.config.harts in
     let is_cut : Bool = it.judged.is_cut in
     let Orders : List Tried → Type 0 = AreTriedOf it.script.config (content it.script.body) it.conditions options.seed options.orders is_cut in
@@ -108,7 +105,6 @@ by-tried options bytes file it own tried each =
       script = written it.script;
       conditions = it.conditions;
       are = record { reads = it.reads; program = tried.program; have = it.have };
-      own = own;
       orders_told = tried.orders.told;
       runs_told = runs.0;
       orders = met-by Orders (TellsOrders options.seed) harts is_cut it.conditions tried.begun tried.first tried.orders first;
@@ -129,17 +125,13 @@ one-fails found is each =
     let same : Fails ≡ Holds = subst EachIsHolds is each 0 Fails refl in absurd (let t = same in cc)
 
 met-as : (options : Options) (bytes : List ℕ) (file : FileReport) (it : IsFoundOfScript options bytes file) (mode : Mode)
-    → IsFoundOf options it.script it.conditions (has_any_tlb bytes) mode it.judged → EachIsHolds (verdicts it.judged)
+    → IsFoundOf options it.script it.conditions mode it.judged → EachIsHolds (verdicts it.judged)
     → AreAllMet options mode bytes it.judged
 met-as options bytes file it Explore (inl explored) each = by-all options bytes file it options.limit.seconds (Some options.states) explored each
-met-as options bytes file it Explore (inr (inl fetches)) each = absurd (one-fails (verdicts it.judged) fetches.fails each)
-met-as options bytes file it Explore (inr (inr other)) each = absurd (one-fails (verdicts it.judged) other.1 each)
+met-as options bytes file it Explore (inr other) each = absurd (one-fails (verdicts it.judged) other.1 each)
 met-as options bytes file it Test (inl explored) each = inl (by-all options bytes file it None None explored each)
-met-as options bytes file it Test (inr (inl some)) each = inr (inl (by-tried options bytes file it some.own some.tried each))
-met-as options bytes file it Test (inr (inr (inl loosely))) each =
-    inl (by-all options bytes file it options.limit.seconds (Some loosely.most) loosely.explored each)
-met-as options bytes file it Test (inr (inr (inr (inl fetches)))) each = absurd (one-fails (verdicts it.judged) fetches.fails each)
-met-as options bytes file it Test (inr (inr (inr (inr lines)))) each = inr (inr (written it.script, it.reads, lines))
+met-as options bytes file it Test (inr (inl tried)) each = inr (inl (by-tried options bytes file it tried each))
+met-as options bytes file it Test (inr (inr lines)) each = inr (inr (written it.script, it.reads, lines))
 
 -- the same of a file with the same findings
 by-same : (options : Options) (bytes : List ℕ) (one other : FileReport) → verdicts one ≡ verdicts other → extents one ≡ extents other
@@ -148,7 +140,6 @@ by-same options bytes one other found reach cut is = record {
   script = is.script;
   conditions = is.conditions;
   are = is.are;
-  own = is.own;
   orders_told = is.orders_told;
   runs_told = is.runs_told;
   orders = subst (λ (is_cut : Bool). AreMetBy is.script.config.harts (AreTriedOf is.script.config is.script.content is.conditions options.seed options.orders is_cut) (TellsOrders options.seed) is.conditions is.orders_told)

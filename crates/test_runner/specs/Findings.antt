@@ -1,7 +1,7 @@
 -- What is found of a file's bytes, in the order of its conditions (profile).
-use Rattle.std.specs.Prelude.{◌≡◌, ◌≢◌, ◌⊎◌, ℕ, List, [], ◌∷◌, ◌++◌, map, Option, Some, None, Bool, true, false}
+use Rattle.std.specs.Prelude.{◌≡◌, ◌≢◌, ◌⊎◌, ℕ, List, [], ◌∷◌, ◌++◌, map, Option, Some, None, true}
 use Rattle.conditions.specs.Condition.{Condition}
-use Rattle.conditions.specs.Grammar.{ReadsConditions, condition_value, has_any_tlb}
+use Rattle.conditions.specs.Grammar.{ReadsConditions, condition_value}
 use Rattle.guest_script.specs.Grammar.{Reads, content, written}
 use Rattle.guest_programs.specs.Programs.{IsProgram}
 use Rattle.guest_programs.specs.Steps.{task_of}
@@ -15,10 +15,16 @@ use Rattle.test_report.specs.declared.verdict.Extent.{Extent}
 use Rattle.test_report.specs.declared.verdict.Verdict.{Verdict}
 use Rattle.test_report.specs.declared.verdict.Verdict.TheVariants.{Fails}
 use Rattle.test_terms.specs.declared.options.Options.{Options}
-use Rattle.all_orders.specs.Verdicts.{AreVerdictsOf, HasFetchesIn, widest}
+use Rattle.all_orders.specs.Verdicts.{AreVerdicts, widest}
 use Rattle.tried_orders.specs.Verdicts.{AddsOrders, AddsRuns}
 
 module _ (options : Options) (script : Script) (conditions : List Condition) where
+  -- By all orders of a program, on its board with the widest limit, one verdict is found of each condition. (The limits of time
+  -- and of states: where both are none, each condition is judged.)
+  pub record IsExplored (seconds states : Option ℕ) (found : List Verdict) : Type 0 where
+    pub program : IsProgram (content script.body)
+    pub are : AreVerdicts (widest script.config) (task_of (content script.body)) seconds states conditions found
+
   -- By the orders of a program that were tried one point is found of each condition, and, if runs on threads were asked
   -- for, one more by their records. They are cut short only if there is a time limit.
   pub record AreTried (file : FileReport) : Type 0 where
@@ -31,39 +37,14 @@ module _ (options : Options) (script : Script) (conditions : List Condition) whe
     pub runs : options.runs ≢ 0 → AddsRuns options script.config (content script.body) conditions file.is_cut first file
     pub time : file.is_cut ≡ true → options.limit.seconds ≢ None
 
-  module _ (any_tlb : Bool) where
-    -- By all orders of a program, on its board with the widest limit, one verdict is found of each condition; with `any tlb` the board
-    -- has any TLBs. (The limits of time and of states: where both are none, each condition is judged.)
-    pub record IsExplored (seconds states : Option ℕ) (found : List Verdict) : Type 0 where
-      pub program : IsProgram (content script.body)
-      pub are : AreVerdictsOf any_tlb (widest script.config) (task_of (content script.body)) seconds states conditions found
+  -- What is found of a script. `explore` looks at all orders of a program, up to the limits, and no other script has orders. `test`
+  -- looks at all orders, and judges each condition by them, or at some. (What it finds of schedules and traces is tested.)
+  abbrev pub IsFoundOf : Mode → FileReport → Type 0
+  IsFoundOf Explore file = IsExplored options.limit.seconds (Some options.states) (verdicts file)
+      ⊎ ((¬ IsProgram (content script.body)) × (verdicts file ≡ Fails ∷ []))
+  IsFoundOf Test file = IsExplored None None (verdicts file) ⊎ AreTried file ⊎ (¬ IsProgram (content script.body))
 
-    -- With `any tlb`, a program that fetches isn't judged, which fails.
-    pub record FetchesLoosely (found : List Verdict) : Type 0 where
-      pub says : any_tlb ≡ true
-      pub fetches : HasFetchesIn (task_of (content script.body))
-      pub fails : found ≡ Fails ∷ []
-
-    -- With `any tlb`, `test` looks at all orders, too, up to some number of states.
-    pub record IsTestedLoosely (found : List Verdict) : Type 0 where
-      pub says : any_tlb ≡ true
-      pub most : ℕ
-      pub explored : IsExplored options.limit.seconds (Some most) found
-
-    -- It tries orders only of a program without `any tlb`, since these are orders of this board.
-    pub record IsTestedBySome (file : FileReport) : Type 0 where
-      pub own : any_tlb ≡ false
-      pub tried : AreTried file
-
-    -- What is found of a script. `explore` looks at all orders of a program, up to the limits, and no other script has orders. `test`
-    -- looks at all orders, and judges each condition by them, or at some. (What it finds of schedules and traces is tested.)
-    abbrev pub IsFoundOf : Mode → FileReport → Type 0
-    IsFoundOf Explore file = IsExplored options.limit.seconds (Some options.states) (verdicts file) ⊎ FetchesLoosely (verdicts file)
-        ⊎ ((¬ IsProgram (content script.body)) × (verdicts file ≡ Fails ∷ []))
-    IsFoundOf Test file = IsExplored None None (verdicts file) ⊎ IsTestedBySome file ⊎ IsTestedLoosely (verdicts file)
-        ⊎ FetchesLoosely (verdicts file) ⊎ (¬ IsProgram (content script.body))
-
--- What is found of bytes: they are this script, have these conditions, and say `any tlb` or not; so much is found of these, and then something
+-- What is found of bytes: they are this script and have these conditions, so much is found of these, and then something
 -- fails for each comment that looks like a condition.
 pub record IsFoundOfScript (options : Options) (bytes : List ℕ) (file : FileReport) : Type 0 where
   pub script : Script
@@ -71,7 +52,7 @@ pub record IsFoundOfScript (options : Options) (bytes : List ℕ) (file : FileRe
   pub reads : Reads bytes (written script)
   pub have : ReadsConditions bytes (map condition_value conditions)
   pub judged : FileReport
-  pub is : IsFoundOf options script conditions (has_any_tlb bytes) options.mode judged
+  pub is : IsFoundOf options script conditions options.mode judged
   pub is_cut : file.is_cut ≡ judged.is_cut
   pub odd : List Verdict
   pub parts : verdicts file ≡ verdicts judged ++ odd

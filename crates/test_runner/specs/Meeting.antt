@@ -1,7 +1,7 @@
 -- What a file's bytes meet if each of its points holds (profile).
-use Rattle.std.specs.Prelude.{◌≡◌, ◌≢◌, ◌⊎◌, ℕ, ◌+◌, ◌<◌, ◌==◌, if◌then◌else◌, List, [], ◌++◌, length, map, slice_get, None, true, false}
+use Rattle.std.specs.Prelude.{◌≡◌, ◌≢◌, ◌⊎◌, ℕ, ◌+◌, ◌<◌, ◌==◌, if◌then◌else◌, List, [], ◌++◌, length, map, slice_get, None, true}
 use Rattle.conditions.specs.Condition.{Condition}
-use Rattle.conditions.specs.Grammar.{ReadsConditions, condition_value, has_any_tlb}
+use Rattle.conditions.specs.Grammar.{ReadsConditions, condition_value}
 use Rattle.guest_script.specs.Grammar.{Reads, Written}
 use Rattle.guest_programs.specs.Programs.{IsProgram}
 use Rattle.guest_programs.specs.Steps.{task_of}
@@ -14,7 +14,6 @@ use Rattle.test_report.specs.declared.report.Mode.TheVariants.{Test, Explore}
 use Rattle.test_report.specs.declared.verdict.Extent.{Extent}
 use Rattle.test_report.specs.declared.verdict.Verdict.{Verdict}
 use Rattle.test_terms.specs.declared.options.Options.{Options}
-use Rattle.all_orders.specs.Orders.{AreOrdersOf, OrdersOn}
 use Rattle.all_orders.specs.Verdicts.{HoldsSo, points_of, widest}
 use Rattle.tried_orders.specs.Verdicts.{AreRunsOf, AreTriedOf, HasNoMisfit, Say, TellsOrders, TellsRuns}
 
@@ -24,16 +23,15 @@ pub record IsProgramWith (bytes : List ℕ) (script : Written) (conditions : Lis
   pub program : IsProgram script.content
   pub have : ReadsConditions bytes (map condition_value conditions)
 
--- The bytes are a program. All of its orders, on its board with the widest limit, or, with `any tlb`, on one with any TLBs, meet each
--- condition that the bytes have, and some order has the step of each `some`. Each condition fits the board; unless it begins with `maybe`, it says something,
+-- The bytes are a program. All of its orders, on its board with the widest limit, meet each condition that the bytes have, and
+-- some order has the step of each `some`. Each condition fits the board; unless it begins with `maybe`, it says something,
 -- and if it is an `end`, some order ends. Without a condition some order ends, and none stuck. So many verdicts were found.
 pub record AreMetByAll (bytes : List ℕ) (found : List Verdict) : Type 0 where
   pub script : Written
   pub conditions : List Condition
   pub are : IsProgramWith bytes script conditions
-  pub orders : OrdersOn
-  pub of : AreOrdersOf (has_any_tlb bytes) (widest script.config) (task_of script.content) orders
-  pub each : (place : ℕ) → place < points_of conditions → HoldsSo (widest script.config) orders (slice_get conditions place)
+  pub each : (place : ℕ) → place < points_of conditions
+      → HoldsSo (widest script.config) (task_of script.content) (slice_get conditions place)
   pub many : length found ≡ points_of conditions
 
 -- Records were tried, some at least, and they meet each of these conditions, which have no misfit; without a condition none
@@ -46,14 +44,13 @@ pub record AreMetBy (harts : ℕ) (Tries : List Tried → Type 0) (Tells : List 
   pub fit : (place : ℕ) → place < points_of conditions → HasNoMisfit harts (slice_get conditions place)
   pub tells : EachIs (Tells tried) told
 
--- The bytes are a program, and don't say `any tlb`. Those of its orders that were tried meet each condition that the bytes have, and so do the
+-- The bytes are a program. Those of its orders that were tried meet each condition that the bytes have, and so do the
 -- records of runs on threads, if some were asked for. So many points were found, and the extent of each has the number of
 -- tried records. If not all that were asked for were tried, there is a time limit.
 pub record AreMetByTried (options : Options) (bytes : List ℕ) (file : FileReport) : Type 0 where
   pub script : Written
   pub conditions : List Condition
   pub are : IsProgramWith bytes script conditions
-  pub own : has_any_tlb bytes ≡ false
   pub orders_told : List Extent
   pub runs_told : List Extent
   pub orders : AreMetBy script.config.harts (AreTriedOf script.config script.content conditions options.seed options.orders file.is_cut)

@@ -4,10 +4,9 @@ ghost use Rattle.test_runner.specs.Inside.Loaded.{IsLoaded};
 ghost use Rattle.test_runner.specs.Reporting.{most_read};
 
 use crate::texts::Texts;
-use conditions::{Condition, Wrong, any_tlb_line, conditions};
+use conditions::{Condition, Wrong, conditions};
 use diagnostics::{bad_board, bad_condition, faulty};
-use guest_script::{Body, FaultKind, Script, locate};
-use marked_conditions::asks_of_marks;
+use guest_script::{FaultKind, Script, locate};
 use std::alloc::{AllocError, Global};
 use std::io::{self, ErrorKind, Read};
 
@@ -21,8 +20,6 @@ pub(crate) struct Loaded {
     pub(crate) script: Script,
     /// Its conditions.
     pub(crate) conditions: Vec<Condition>,
-    /// Whether it says `any tlb`.
-    pub(crate) any_tlb: bool,
 }
 
 /// Why nothing was loaded.
@@ -84,41 +81,7 @@ pub(crate) fn load(alloc: Global, text: &[u8]) -> Result<Loaded, Unloaded>
         Err(found) if found.wrong == Wrong::NoMemory => return Err(Unloaded::NoMemory),
         Err(found) => return Err(Unloaded::File(bad_condition(alloc, text, found)?)),
     };
-    let line = any_tlb_line(text);
-    if let Some(line) = line
-        && let Some(why) = bad_for_any_tlb(alloc, line, &script, &conditions)?
-    {
-        return Err(Unloaded::File(why));
-    }
-    Ok(Loaded {
-        script,
-        conditions,
-        any_tlb: line.is_some(),
-    })
-}
-
-/// What a script with this line `any tlb` can't have, if it has that: it is a program, without a condition on marks, which are of this
-/// board's TLB entries.
-fn bad_for_any_tlb(
-    alloc: Global,
-    line: u64,
-    script: &Script,
-    conditions: &[Condition],
-) -> Result<Option<String>, AllocError> {
-    if let Body::Schedule(_) | Body::Trace(_) = &script.body {
-        let why = format!(in alloc; ": line {line}: 'any tlb' is of programs: this is a record of this board")?;
-        return Ok(Some(why));
-    }
-    for condition in conditions {
-        if asks_of_marks(&condition.rule) {
-            let line = condition.line;
-            let why = format!(in alloc;
-                ": line {line}: with 'any tlb' no condition asks of marks: ask it in a file without"
-            )?;
-            return Ok(Some(why));
-        }
-    }
-    Ok(None)
+    Ok(Loaded { script, conditions })
 }
 
 fn unreadable(alloc: Global, kind: ErrorKind) -> Result<Unloaded, AllocError> {

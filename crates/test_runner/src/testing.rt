@@ -13,8 +13,7 @@ ghost use Rattle.test_runner.specs.Reporting.{IsReportOf};
 use crate::loading::{Unloaded, load, read};
 use crate::steps::test_steps;
 use crate::texts::Texts;
-use all_orders::{explore_loosely, explore_program, test_all_orders};
-use board_core::Op;
+use all_orders::{explore_program, test_all_orders};
 use diagnostics::Case;
 use guest_script::Body;
 use std::alloc::{AllocError, Global};
@@ -71,7 +70,7 @@ fn test_text<'a, R: AllocGlobal + Clock + Eprint + Files + Sync + Threads + Wait
         record,
         script: &loaded.script,
     };
-    let mut found = test_script(&trial, loaded.any_tlb)?;
+    let mut found = test_script(&trial)?;
     put_unasked(&trial, &mut found)?;
     Ok(found)
 }
@@ -119,19 +118,15 @@ fn failing(alloc: Global, name: String) -> Result<FileReport, AllocError>
     Ok(file)
 }
 
-/// Tests a script by its kind, and by whether it says `any tlb`.
+/// Tests a script by its kind.
 fn test_script<R: AllocGlobal + Clock + Eprint + Files + Sync + Threads + Wait>(
     trial: &Trial<'_, R>,
-    any_tlb: bool,
 ) -> Result<FileReport, Stop>
-    ensures { IfOk result (IsFoundOf trial.now.options.now trial.now.script.now trial.now.case.conditions.now any_tlb
+    ensures { IfOk result (IsFoundOf trial.now.options.now trial.now.script.now trial.now.case.conditions.now
         trial.now.options.now.mode) }
 {
     if is_program(&trial.script.body) {
-        return match any_tlb {
-            true => test_loosely(trial),
-            false => test_program(trial),
-        };
+        return test_program(trial);
     }
     match trial.options.mode {
         Mode::Explore => {
@@ -148,7 +143,7 @@ fn test_program<R: AllocGlobal + Clock + Eprint + Files + Sync + Threads + Wait>
     trial: &Trial<'_, R>,
 ) -> Result<FileReport, Stop>
     requires { IsProgram (content trial.now.script.now.body) }
-    ensures { IfOk result (IsFoundOf trial.now.options.now trial.now.script.now trial.now.case.conditions.now false
+    ensures { IfOk result (IsFoundOf trial.now.options.now trial.now.script.now trial.now.case.conditions.now
         trial.now.options.now.mode) }
 {
     match trial.options.mode {
@@ -160,40 +155,6 @@ fn test_program<R: AllocGlobal + Clock + Eprint + Files + Sync + Threads + Wait>
             Ok(test_some(trial)?)
         }
     }
-}
-
-/// Tests a program by all of its orders on a board with any TLBs. One that fetches isn't judged: no record tells what a fetch may find.
-fn test_loosely<R: AllocGlobal + Clock + Eprint + Files>(
-    trial: &Trial<'_, R>,
-) -> Result<FileReport, Stop>
-    requires { IsProgram (content trial.now.script.now.body) }
-    ensures { IfOk result (IsFoundOf trial.now.options.now trial.now.script.now trial.now.case.conditions.now true
-        trial.now.options.now.mode) }
-{
-    if let Some(file) = explore_loosely(trial)? {
-        return Ok(file);
-    }
-    let alloc = trial.rt.alloc();
-    let file = trial.case.file;
-    let name = match fetch_line(trial) {
-        Some(line) => format!(in alloc; "{file}: line {line}: with 'any tlb' no guest fetches")?,
-        None => format!(in alloc; "{file}: with 'any tlb' no guest fetches")?,
-    };
-    Ok(failing(alloc, name)?)
-}
-
-/// The line of the first fetch of a program.
-fn fetch_line<R>(trial: &Trial<'_, R>) -> Option<u64> {
-    let Body::Program { blocks, .. } = &trial.script.body else {
-        return None;
-    };
-    for block in blocks {
-        if let Some(before) = block.ops.iter().position(|op| matches!(op, Op::Fetch(_))) {
-            let (line, _) = trial.case.op_line(block.addr, before as u64)?;
-            return Some(line);
-        }
-    }
-    None
 }
 
 /// Tests a program by some of its orders, and by runs on threads if they are asked for.

@@ -10,7 +10,7 @@ use std::rt::Files;
 use test_report::{Detail, RecordParts, Unwritten, record, stuck_harts};
 
 /// How many steps are shown before and behind the one that fails.
-pub const AROUND: usize = 6;
+const AROUND: usize = 6;
 
 /// Writes a record into a file whose name ends with this label. It adds the file's name, the steps around the one at this
 /// place, and why the record ended stuck, if it did. They are added also if the file can't be written.
@@ -26,38 +26,23 @@ pub fn keep<R: AllocGlobal + Files>(
     details: &mut Vec<Detail>,
 ) -> Result<(), AllocError> {
     let alloc = trial.rt.alloc();
-    keep_text(trial, label, &record(alloc, kept)?, details)?;
-    if let Some(place) = place {
-        details.push(Detail::Steps(place, around(alloc, kept.events, place)?))?;
-    }
-    if kept.end == Some(End::Stuck) {
-        details.push(Detail::Stuck(stuck_harts(alloc, &trial.case, kept.board)?))?;
-    }
-    Ok(())
-}
-
-/// Writes a text into a file whose name ends with this label, and adds the file's name, also if it can't be written.
-///
-/// # Errors
-///
-/// Memory was refused.
-pub fn keep_text<R: AllocGlobal + Files>(
-    trial: &Trial<'_, R>,
-    label: &str,
-    text: &[u8],
-    details: &mut Vec<Detail>,
-) -> Result<(), AllocError> {
-    let alloc = trial.rt.alloc();
     let folder = trial.options.failed;
     let name = trial.record;
     let path = format!(in alloc; "{folder}/{name}{label}")?;
-    let unwritten = match write(trial, path.as_str(), text) {
+    let bytes = record(alloc, kept)?;
+    let unwritten = match write(trial, path.as_str(), &bytes) {
         Ok(()) => None,
         Err(error) => Some(Unwritten::new(alloc, path.as_str(), &error)?),
     };
     details.push(Detail::Record(path))?;
     if let Some(unwritten) = unwritten {
         details.push(Detail::Unwritten(unwritten))?;
+    }
+    if let Some(place) = place {
+        details.push(Detail::Steps(place, around(alloc, kept.events, place)?))?;
+    }
+    if kept.end == Some(End::Stuck) {
+        details.push(Detail::Stuck(stuck_harts(alloc, &trial.case, kept.board)?))?;
     }
     Ok(())
 }

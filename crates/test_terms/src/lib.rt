@@ -14,7 +14,7 @@ mod trial;
 
 pub use causes::{put_causes, told_causes};
 pub use files::is_one_of;
-pub use kept::{AROUND, keep, keep_text};
+pub use kept::keep;
 pub use limit::Limit;
 pub use next_accesses::NextAccesses;
 pub use odd::{oddities, unasked};

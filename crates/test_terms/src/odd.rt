@@ -108,7 +108,7 @@ pub fn unasked<'a>(alloc: Global, case: &Case<'a>) -> Result<Vec<(u64, &'a str)>
     Ok(found)
 }
 
-/// The word of a condition, or of `any tlb`, that stands in a comment behind a sign and blanks.
+/// The word of a condition that stands in a comment behind a sign and blanks.
 fn asked_behind_blanks(comment: &[u8]) -> Option<&[u8]> {
     let (sign, after) = next_word(comment.strip_prefix(b"#")?)?;
     if !matches!(comment.get(1), Some(b' ' | b'\t')) {
@@ -120,8 +120,7 @@ fn asked_behind_blanks(comment: &[u8]) -> Option<&[u8]> {
     } else {
         asked
     };
-    let begins = word == b"maybe".as_slice() || word == b"any".as_slice();
-    if begins || Keyword::of(word).is_some() {
+    if word == b"maybe".as_slice() || Keyword::of(word).is_some() {
         Some(word)
     } else {
         None

@@ -124,7 +124,6 @@ impl<E: Cached> Cache<E> {
     }
 
     /// Fills an item, with this date. It replaces the item filled sixteen fills before (profile).
-    #[inline(always)]
     pub fn fill(&mut self, date: u64, item: E)
         requires { self.old.next < 2 ^ 63 }
         ensures { self.new ≡ filled self.old date item }

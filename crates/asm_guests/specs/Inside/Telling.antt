@@ -3,7 +3,7 @@ use Rattle.std.proofs.Common.{◌≡◌, ℕ, zero, suc, ◌+◌, ◌*◌, ◌/�
 use Rattle.std.proofs.lemmas.Bool.{eqb-true}
 use Rattle.asm_guests.specs.declared.csrs.GuestCsrs.{GuestCsrs}
 use Rattle.asm_guests.specs.declared.guest.AsmGuest.{AsmGuest}
-use Rattle.asm_guests.specs.declared.guest.AsmGuest.TheVariants.{Nowhere, Before, Trapping, Resting, Through, Astray}
+use Rattle.asm_guests.specs.declared.guest.AsmGuest.TheVariants.{Nowhere, Before, Trapping, Through, Astray}
 use Rattle.asm_guests.specs.declared.guest.Lost.{Lost}
 use Rattle.asm_guests.specs.declared.guest.Lost.TheVariants.{NoInstruction, Endless, NoHandler, UserMode}
 use Rattle.asm_guests.specs.declared.state.RegisterContent.{RegisterContent}
@@ -187,8 +187,7 @@ guest-told Nowhere Nowhere front behind same = (refl, cc)
 guest-told Nowhere (Through r) front behind same = absurd cc
 guest-told Nowhere (Before t) front behind same = absurd cc
 guest-told Nowhere (Trapping t) front behind same = absurd cc
-guest-told Nowhere (Resting t) front behind same = absurd cc
-guest-told Nowhere (Astray other to) front behind same = absurd cc
+guest-told Nowhere (Astray lost at) front behind same = absurd cc
 guest-told (Through r) Nowhere front behind same = absurd cc
 guest-told (Through r) (Through q) front behind same =
     let words : register_words 0 r ++ front ≡ register_words 0 q ++ behind = cc in
@@ -196,8 +195,7 @@ guest-told (Through r) (Through q) front behind same =
     (ap Through told.0, told.1)
 guest-told (Through r) (Before t) front behind same = absurd cc
 guest-told (Through r) (Trapping t) front behind same = absurd cc
-guest-told (Through r) (Resting t) front behind same = absurd cc
-guest-told (Through r) (Astray other to) front behind same = absurd cc
+guest-told (Through r) (Astray lost at) front behind same = absurd cc
 guest-told (Before s) Nowhere front behind same = absurd cc
 guest-told (Before s) (Through r) front behind same = absurd cc
 guest-told (Before s) (Before t) front behind same =
@@ -205,8 +203,7 @@ guest-told (Before s) (Before t) front behind same =
     let told = state-told s t front behind words in
     (ap Before told.0, told.1)
 guest-told (Before s) (Trapping t) front behind same = absurd cc
-guest-told (Before s) (Resting t) front behind same = absurd cc
-guest-told (Before s) (Astray other to) front behind same = absurd cc
+guest-told (Before s) (Astray lost at) front behind same = absurd cc
 guest-told (Trapping s) Nowhere front behind same = absurd cc
 guest-told (Trapping s) (Through r) front behind same = absurd cc
 guest-told (Trapping s) (Before t) front behind same = absurd cc
@@ -214,22 +211,11 @@ guest-told (Trapping s) (Trapping t) front behind same =
     let words : guest_state_words s ++ front ≡ guest_state_words t ++ behind = cc in
     let told = state-told s t front behind words in
     (ap Trapping told.0, told.1)
-guest-told (Trapping s) (Resting t) front behind same = absurd cc
-guest-told (Trapping s) (Astray other to) front behind same = absurd cc
-guest-told (Resting s) Nowhere front behind same = absurd cc
-guest-told (Resting s) (Through r) front behind same = absurd cc
-guest-told (Resting s) (Before t) front behind same = absurd cc
-guest-told (Resting s) (Trapping t) front behind same = absurd cc
-guest-told (Resting s) (Resting t) front behind same =
-    let words : guest_state_words s ++ front ≡ guest_state_words t ++ behind = cc in
-    let told = state-told s t front behind words in
-    (ap Resting told.0, told.1)
-guest-told (Resting s) (Astray other to) front behind same = absurd cc
+guest-told (Trapping s) (Astray lost at) front behind same = absurd cc
 guest-told (Astray lost at) Nowhere front behind same = absurd cc
 guest-told (Astray lost at) (Through r) front behind same = absurd cc
 guest-told (Astray lost at) (Before t) front behind same = absurd cc
 guest-told (Astray lost at) (Trapping t) front behind same = absurd cc
-guest-told (Astray lost at) (Resting t) front behind same = absurd cc
 guest-told (Astray lost at) (Astray other to) front behind same =
     let numbers : lost_number lost ≡ lost_number other = cc in
     let losts : lost ≡ other = lost-told lost other numbers in

@@ -3,11 +3,6 @@ use Rattle.std.specs.Prelude.{◌≡◌, ℕ, ◌-◌, ◌<◌, ◌≤◌, List,
 use Rattle.std.specs.List.{All, insert}
 use Rattle.interrupts.specs.declared.ahead.Member.{Member}
 
--- deadlines that aren't due yet, the soonest first, and for how many there is room
-pub record Deadlines : Type 0 where
-  pub list : List Member
-  pub room : ℕ
-
 -- a deadline and its hart
 abbrev pub member_of : ℕ → ℕ → Member
 member_of deadline hart = record { deadline = deadline; hart = hart }

@@ -6,11 +6,10 @@ use Rattle.interrupts.proofs.timers.move_due.Given as goal
 
 abbrev pub invariant-loop-hart : goal.invariant-loop-hart
 invariant-loop-hart l = record {
-  left : left_after l.time l.ahead.list ≡ left_after l.time l.initial.ahead.list;
-  moved : due_after l.time l.due l.ahead.list ≡ due_after l.time l.initial.due l.initial.ahead.list;
-  harts : All (λ (member : Member). member.hart < 128) l.ahead.list;
-  room : l.ahead.room ≡ l.initial.ahead.room;
+  left : left_after l.time l.ahead ≡ left_after l.time l.initial.ahead;
+  moved : due_after l.time l.due l.ahead ≡ due_after l.time l.initial.due l.initial.ahead;
+  harts : All (λ (member : Member). member.hart < 128) l.ahead;
 }
 
 abbrev pub decreases-loop-hart : goal.decreases-loop-hart
-decreases-loop-hart l = length l.ahead.list
+decreases-loop-hart l = length l.ahead

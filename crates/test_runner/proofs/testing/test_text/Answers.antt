@@ -1,5 +1,4 @@
 use Rattle.std.proofs.Common.{List, inl, subst}
-use Rattle.std.specs.Prelude.{Bool}
 use Rattle.conditions.specs.Condition.{Condition}
 use Rattle.test_runner.specs.Findings.{IsFoundOf}
 use Rattle.test_runner.proofs.testing.test_text.Goals as goal
@@ -17,9 +16,8 @@ returns g c =
       reads = c.in-Ok.ensures.script;
       have = c.in-Ok.ensures.conditions;
       judged = c.in_ok-found.found;
-      is = subst (λ (any_tlb : Bool). IsFoundOf options loaded.script loaded.conditions.items any_tlb options.mode c.in_ok-found.found) c.in-Ok.ensures.any_tlb
-          (subst (λ (conditions : List Condition). IsFoundOf options loaded.script conditions loaded.any_tlb options.mode c.in_ok-found.found)
-          c.deref.ensures.value c.in_ok-found.ensures);
+      is = subst (λ (conditions : List Condition). IsFoundOf options loaded.script conditions options.mode c.in_ok-found.found)
+          c.deref.ensures.value c.in_ok-found.ensures;
       is_cut = c.put_unasked.ensures.cut;
       odd = odd.0;
       parts = odd.1;

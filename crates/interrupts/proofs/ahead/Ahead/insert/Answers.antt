@@ -3,7 +3,7 @@ use Rattle.std.proofs.lemmas.List.{length-drop}
 use Rattle.std.specs.List.Sorted.{IsNonDecreasingBy}
 use Rattle.std.proofs.lemmas.List.Edits.{length-insert}
 use Rattle.interrupts.specs.declared.ahead.Member.{Member}
-use Rattle.interrupts.specs.Inside.Ahead.{Deadlines, IsPlaceOf, member_of}
+use Rattle.interrupts.specs.Inside.Ahead.{IsPlaceOf, member_of}
 use Rattle.interrupts.proofs.Members.{IsNonDecreasingBy-placed, drop-insert}
 use Rattle.interrupts.proofs.ahead.Ahead.insert.Goals as goal
 
@@ -15,17 +15,17 @@ invariant_of-self c =
     let at : IsPlaceOf c.args.deadline room.result members place = rw (← c.as_slice.ensures.value) c.place_of-place.ensures in
     let up : IsNonDecreasingBy (λ (m : Member). m.deadline) (drop room.result members) = rw room.ensures.same c.self.invariant.1 in
     let kept = IsNonDecreasingBy-placed members c.args.deadline c.args.hart room.result place up room.ensures.within at in
-    let same = ap (drop room.result) c.put.ensures.items ∙ drop-insert members room.result place (member_of c.args.deadline c.args.hart) room.ensures.within at.from in
-    (omega (arith, ap length c.put.ensures.items, length-insert members place (member_of c.args.deadline c.args.hart) at.within, room.ensures.within), rw same kept)
+    let same = ap (drop room.result) c.put.ensures ∙ drop-insert members room.result place (member_of c.args.deadline c.args.hart) room.ensures.within at.from in
+    (omega (arith, ap length c.put.ensures, length-insert members place (member_of c.args.deadline c.args.hart) at.within, room.ensures.within), rw same kept)
 
-pub returns-clause-inserted : goal.returns-clause-inserted
-returns-clause-inserted c =
+pub returns : goal.returns
+returns c =
     let room = c.with_room-self-inside in
     let members = room.new.members.items in
     let place = c.place_of-place.result in
     let at : IsPlaceOf c.args.deadline room.result members place = rw (← c.as_slice.ensures.value) c.place_of-place.ensures in
-    let same = ap (drop room.result) c.put.ensures.items ∙ drop-insert members room.result place (member_of c.args.deadline c.args.hart) room.ensures.within at.from in
+    let same = ap (drop room.result) c.put.ensures ∙ drop-insert members room.result place (member_of c.args.deadline c.args.hart) room.ensures.within at.from in
     let long = length-drop room.result members in
     let from = at.from in
     let to = at.within in
-    rw (← ap (λ (d : Deadlines). d.list) c.self.view_is) (rw (← room.ensures.same) (record { place = place - room.result; within = omega (arith, long, from, to); is = same }))
+    rw (← c.self.view_is) (rw (← room.ensures.same) (record { place = place - room.result; within = omega (arith, long, from, to); is = same }))

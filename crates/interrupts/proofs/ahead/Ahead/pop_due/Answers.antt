@@ -1,18 +1,17 @@
-use Rattle.std.proofs.Common.{◌<◌, length, arith, ap, get_or, refl}
+use Rattle.std.proofs.Common.{◌<◌, length, arith, get_or, refl}
 use Rattle.std.proofs.lemmas.List.{drop-drop}
 use Rattle.std.proofs.lemmas.List.Sorted.{IsNonDecreasingBy-drop}
 use Rattle.interrupts.specs.declared.ahead.Member.{Member}
-use Rattle.interrupts.specs.Inside.Ahead.{Deadlines}
 use Rattle.interrupts.proofs.Members.{later-from_first}
 use Rattle.interrupts.proofs.ahead.Ahead.pop_due.Goals as goal
 
-pub returns-then-first-time-clause-popped : goal.returns-then-first-time-clause-popped
-returns-then-first-time-clause-popped c =
+pub returns-then-first-time : goal.returns-then-first-time
+returns-then-first-time c =
     let members = c.self.inside.members.items in
     let start = c.self.inside.start in
     let look = c.in_ok-first.ensures.lookup in
     let first : (d : Member) → c.args.time < (get_or members start d).deadline = λ d. rw (← c.as_slice.ensures.value) (rw (← look.3.1 d) c.if-first-time.true) in
-    record { same = refl; later = rw (← ap (λ (d : Deadlines). d.list) c.self.view_is) (later-from_first c.args.time members start c.self.invariant.1 first) }
+    record { same = refl; later = rw (← c.self.view_is) (later-from_first c.args.time members start c.self.invariant.1 first) }
 
 pub invariant_of-self : goal.invariant_of-self
 invariant_of-self c =

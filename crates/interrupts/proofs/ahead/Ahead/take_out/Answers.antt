@@ -4,7 +4,7 @@ use Rattle.std.specs.List.{position}
 use Rattle.std.proofs.lemmas.List.{length-drop, take_rest}
 use Rattle.std.proofs.lemmas.List.Quantifiers.{position-Some}
 use Rattle.interrupts.specs.declared.ahead.Member.{Member}
-use Rattle.interrupts.specs.Inside.Ahead.{Deadlines, member_of}
+use Rattle.interrupts.specs.Inside.Ahead.{member_of}
 use Rattle.interrupts.proofs.Members.{IsNonDecreasingBy-remove, drop-remove, without-absent, without-position}
 use Rattle.interrupts.proofs.ahead.Ahead.take_out.Goals as goal
 
@@ -31,19 +31,19 @@ invariant_of-self c =
       rw (c.remove.ensures.items, drop-remove members start c.in-Some.place c.self.invariant.0) up,
     )
 
-pub returns-in-Some-clause-list : goal.returns-in-Some-clause-list
-returns-in-Some-clause-list c =
+pub returns-in-Some : goal.returns-in-Some
+returns-in-Some c =
     let members = c.self.inside.members.items in
     let start = c.self.inside.start in
     let at : position (λ (m : Member). m.hart == c.args.hart) (drop start members) ≡ Some c.in-Some.place =
     placed c.args.hart members start c.place_of_hart.result _ c.as_slice.ensures.value c.place_of_hart.ensures ∙ c.in-Some.is in
-    rw (← ap (λ (d : Deadlines). d.list) c.self.view_is) (ap (drop start) c.remove.ensures.items ∙ drop-remove members start c.in-Some.place c.self.invariant.0
+    rw (← c.self.view_is) (ap (drop start) c.remove.ensures.items ∙ drop-remove members start c.in-Some.place c.self.invariant.0
     ∙ without-position c.args.hart (drop start members) c.in-Some.place at)
 
-pub returns-in_default-clause-list : goal.returns-in_default-clause-list
-returns-in_default-clause-list c =
+pub returns-in_default : goal.returns-in_default
+returns-in_default c =
     let members = c.self.inside.members.items in
     let start = c.self.inside.start in
     let at : position (λ (m : Member). m.hart == c.args.hart) (drop start members) ≡ None =
     placed c.args.hart members start c.place_of_hart.result _ c.as_slice.ensures.value c.place_of_hart.ensures ∙ c.in_default.is in
-    rw (← ap (λ (d : Deadlines). d.list) c.self.view_is) (without-absent c.args.hart (drop start members) at)
+    rw (← c.self.view_is) (without-absent c.args.hart (drop start members) at)

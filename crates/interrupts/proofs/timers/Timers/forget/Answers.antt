@@ -1,5 +1,4 @@
 use Rattle.std.proofs.Common.{◌≡◌, length, get_or, None, ap, ◌∙◌, sym, arith}
-use Rattle.std.proofs.lemmas.List.{length-set}
 use Rattle.interrupts.specs.Timing.{Timing, deadline_of}
 use Rattle.interrupts.specs.Inside.Listed.{is_ahead}
 use Rattle.interrupts.proofs.Listing.{later-without, listed-forgotten}
@@ -13,8 +12,7 @@ invariant_of-self c =
     let so : c.is_ahead-is_ahead.result ≡ is_ahead at.time (get_or at.deadlines.items c.args.h None) =
     c.is_ahead-is_ahead.ensures ∙ ap (λ (t : Timing). is_ahead t.time (deadline_of t c.args.h)) (sym c.self.view_is) in (
       kept.0,
-      rw (c.take_out_where.ensures.list, c.remove.ensures, so) (listed-forgotten at.time at.deadlines.items at.ahead.list at.due c.args.h (omega (arith, long, c.requires)) kept.1 kept.2),
-      rw c.take_out_where.ensures.list (later-without at.time c.is_ahead-is_ahead.result c.args.h at.ahead.list kept.2),
+      rw (c.take_out_where.ensures, c.remove.ensures, so) (listed-forgotten at.time at.deadlines.items at.ahead at.due c.args.h (omega (arith, long, c.requires)) kept.1 kept.2),
+      rw c.take_out_where.ensures (later-without at.time c.is_ahead-is_ahead.result c.args.h at.ahead kept.2),
       kept.3,
-      c.take_out_where.ensures.room ∙ kept.4 ∙ sym (length-set at.deadlines.items c.args.h None),
     )

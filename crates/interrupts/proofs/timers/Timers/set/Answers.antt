@@ -1,4 +1,4 @@
-use Rattle.std.proofs.Common.{◌≡◌, ℕ, ◌<◌, length, get_or, List, Option, Some, None, ap, sym, ◌∙◌}
+use Rattle.std.proofs.Common.{◌≡◌, ℕ, ◌<◌, length, get_or, List, Option, Some, None, ap, ◌∙◌}
 use Rattle.std.proofs.lemmas.List.{get_or-set_same, length-set, set-set}
 use Rattle.interrupts.specs.Timing.{Timing, with_deadline}
 use Rattle.interrupts.proofs.Listing.{later-inserted, listed-ahead, listed-due, room, unset}
@@ -23,29 +23,28 @@ invariant_of-self c =
     let kept = c.self.invariant in
     let at = c.self.inside in
     let was = forgotten c.args.self.now _ c.args.h (c.self.view_is ∙ c.forget.ensures) c.requires in
-    let free = unset at.time at.deadlines.items at.ahead.list at.due c.args.h was.inside was.none kept.1 kept.2 in
-    (kept.0, rw c.insert.ensures (listed-due at.time at.deadlines.items at.ahead.list at.due c.args.h c.args.deadline was.inside c.if-deadline-self.true free.1 kept.1), kept.2, kept.3, kept.4 ∙ sym (length-set at.deadlines.items c.args.h (Some c.args.deadline)))
+    let free = unset at.time at.deadlines.items at.ahead at.due c.args.h was.inside was.none kept.1 kept.2 in
+    (kept.0, rw c.insert.ensures (listed-due at.time at.deadlines.items at.ahead at.due c.args.h c.args.deadline was.inside c.if-deadline-self.true free.1 kept.1), kept.2, kept.3)
 
 pub insert-requires-else-deadline-self : goal.insert-requires-else-deadline-self
 insert-requires-else-deadline-self c =
     let kept = c.self.invariant in
     let at = c.self.inside in
     let was = forgotten c.args.self.now _ c.args.h (c.self.view_is ∙ c.forget.ensures) c.requires in
-    let free = unset at.time at.deadlines.items at.ahead.list at.due c.args.h was.inside was.none kept.1 kept.2 in
-    rw kept.4 (room at.time at.deadlines.items at.ahead.list at.due c.args.h was.inside free.1 kept.1)
+    let free = unset at.time at.deadlines.items at.ahead at.due c.args.h was.inside was.none kept.1 kept.2 in
+    room at.time at.deadlines.items at.ahead at.due c.args.h was.inside free.1 kept.1
 
 pub invariant_of-self-else-deadline-self : goal.invariant_of-self-else-deadline-self
 invariant_of-self-else-deadline-self c =
     let kept = c.self.invariant in
     let at = c.self.inside in
     let was = forgotten c.args.self.now _ c.args.h (c.self.view_is ∙ c.forget.ensures) c.requires in
-    let free = unset at.time at.deadlines.items at.ahead.list at.due c.args.h was.inside was.none kept.1 kept.2 in
-    let put = c.insert-else-deadline-self.ensures.inserted in (
+    let free = unset at.time at.deadlines.items at.ahead at.due c.args.h was.inside was.none kept.1 kept.2 in
+    let put = c.insert-else-deadline-self.ensures in (
       kept.0,
-      listed-ahead at.time at.deadlines.items at.ahead.list _ at.due c.args.h c.args.deadline was.inside free.0 free.1 kept.1 put,
-      later-inserted at.time at.ahead.list _ c.args.h c.args.deadline c.if-deadline-self.false kept.2 put,
+      listed-ahead at.time at.deadlines.items at.ahead _ at.due c.args.h c.args.deadline was.inside free.0 free.1 kept.1 put,
+      later-inserted at.time at.ahead _ c.args.h c.args.deadline c.if-deadline-self.false kept.2 put,
       kept.3,
-      c.insert-else-deadline-self.ensures.room ∙ kept.4 ∙ sym (length-set at.deadlines.items c.args.h (Some c.args.deadline)),
     )
 
 pub returns-then-deadline-self-clause-after : goal.returns-then-deadline-self-clause-after

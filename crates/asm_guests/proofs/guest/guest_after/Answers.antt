@@ -1,7 +1,7 @@
 use Rattle.std.proofs.Common.{sym, ap, ◌∙◌}
 use Rattle.asm_guests.specs.declared.guest.AsmGuest.{AsmGuest}
-use Rattle.asm_guests.specs.Guests.{after_operation, most_steps, settled}
-use Rattle.asm_guests.proofs.guest.after_operation.Goals as goal
+use Rattle.asm_guests.specs.Guests.{guest_after, most_steps, settled}
+use Rattle.asm_guests.proofs.guest.guest_after.Goals as goal
 
 pub returns-in-Trapping : goal.returns-in-Trapping
 unfolding most_steps
@@ -9,4 +9,4 @@ returns-in-Trapping g c =
     let code = g.C.Code.listing c.args.code.now in
     c.settle.ensures
     ∙ ap (settled code most_steps) c.take_trap.ensures
-    ∙ ap (λ (guest : AsmGuest). after_operation code guest c.args.reply) (sym c.in-Trapping.is)
+    ∙ ap (λ (guest : AsmGuest). guest_after code guest c.args.reply) (sym c.in-Trapping.is)
