@@ -73,21 +73,19 @@ pub(crate) fn end_conditions(alloc: Global, text: &[u8]) -> Result<Vec<EndCondit
 /// A text in which `/\` and `\/` are marks of assembly.
 fn with_marks(alloc: Global, text: &[u8]) -> Result<Vec<u8>, AllocError> {
     let mut marked = Vec::new(alloc);
-    let mut left = text;
-    'text: loop {
-        if let Some(behind) = left.strip_prefix(b"/\\") {
-            marked.extend_from_slice(b"& ")?;
-            left = behind;
-        } else if let Some(behind) = left.strip_prefix(b"\\/") {
-            marked.extend_from_slice(b"| ")?;
-            left = behind;
-        } else if let Some((first, behind)) = left.split_first() {
-            marked.push(*first)?;
-            left = behind;
-        } else {
-            return Ok(marked);
-        }
+    let mut is_second = false;
+    for (i, byte) in text.iter().enumerate() {
+        let next = text.get(i.saturating_add(1)).copied();
+        let mark = match (*byte, next) {
+            _ if is_second => b' ',
+            (b'/', Some(b'\\')) => b'&',
+            (b'\\', Some(b'/')) => b'|',
+            _ => *byte,
+        };
+        is_second = !is_second && mark != *byte;
+        marked.push(mark)?;
     }
+    Ok(marked)
 }
 
 /// What is known where an expression stands.
